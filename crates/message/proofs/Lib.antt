@@ -1,0 +1,2 @@
+-- Laws of messages that belong to no one function; the crates above cite them.
+pub mod Headers

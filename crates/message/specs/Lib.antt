@@ -1,0 +1,4 @@
+-- What the contracts of the crate `message` cite: the message rules of document 01.
+pub mod Limits
+pub mod Header
+pub mod Walk

@@ -1,0 +1,26 @@
+// A refusal: its number in document 01's tables.
+#[repr(C)]
+pub struct Refusal {
+    pub number: u32,
+}
+
+impl Refusal {
+    // No bytes, not a multiple of 4, or over the limit.
+    pub const LENGTH: u32 = 2;
+    // A header or a body runs past the end.
+    pub const PAST_END: u32 = 3;
+    // Byte 0 differs from the first header's.
+    pub const BYTE0: u32 = 4;
+    // Kind 3.
+    pub const KIND: u32 = 5;
+    // Reserved bits set.
+    pub const RESERVED: u32 = 6;
+    // Count not allowed.
+    pub const COUNT: u32 = 7;
+    // Byte enables not allowed.
+    pub const ENABLES: u32 = 8;
+    // Words follow the LAST command.
+    pub const AFTER_LAST: u32 = 9;
+    // The answer with all commands OK would pass the limit.
+    pub const ANSWER: u32 = 10;
+}

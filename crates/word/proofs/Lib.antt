@@ -1,0 +1,5 @@
+-- Laws of words that belong to no one function; the crates above cite them.
+pub mod Rules
+pub mod Runs
+pub mod Crossing
+pub mod Places

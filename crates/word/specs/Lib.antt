@@ -1,0 +1,3 @@
+-- What the contracts of the crate `word` cite.
+pub mod Words
+pub mod Enables

@@ -1,0 +1,59 @@
+// Little-endian words in byte slices, runs of words (`run`), and a word merged under byte enables.
+//
+// The contracts cite specs/Words.antt and specs/Enables.antt, and so do those of every crate above.
+pub mod run;
+
+ghost use mathlib.Core.Path.{_≡_};
+ghost use Prim.Native.Nat.{_+_, _*_, _<_, _≤_};
+ghost use mathlib.Core.Bool.{cond};
+ghost use mathlib.Core.List.{_∷_, []};
+ghost use lib.Dec.{eqb};
+ghost use lib.ListN.{length, getD};
+ghost use Rattle.word.specs.Words.{wordsOf, putWords};
+ghost use Rattle.word.specs.Enables.{merged};
+
+// A byte as a number that can be shifted up.
+fn wide(x: u8) -> u32
+    ensures { λ r. ⌜ (r ≡ x) × (r < 256) ⌝ }
+{
+    x as u32
+}
+
+// Word i of the bytes b.
+pub fn word_at(b: &[u8], i: usize) -> u32
+    requires { ⌜ 4 * i + 4 ≤ length (now b) ⌝ }
+    ensures { λ r. ⌜ r ≡ getD (wordsOf (now (b .entry))) i 0 ⌝ }
+{
+    let at = 4 * i;
+    wide(b[at]) + 256 * wide(b[at + 1]) + 65536 * wide(b[at + 2]) + 16777216 * wide(b[at + 3])
+}
+
+// Makes w word i of the bytes out. Every other byte stays.
+pub fn put_word(out: &mut [u8], i: usize, w: u32)
+    requires { ⌜ 4 * i + 4 ≤ length (now out) ⌝ }
+    ensures { λ _. ⌜ now (out .exit) ≡ putWords (now (out .entry)) i (w ∷ []) ⌝ }
+{
+    let at = 4 * i;
+    out[at] = (w % 256) as u8;
+    out[at + 1] = (w / 256 % 256) as u8;
+    out[at + 2] = (w / 65536 % 256) as u8;
+    out[at + 3] = (w / 16777216 % 256) as u8;
+}
+
+// The new byte where its enable bit is 1, else the old one.
+fn chosen(bit: u32, new: u32, old: u32) -> u32
+    requires { ⌜ (new < 256) × (old < 256) ⌝ }
+    ensures { λ r. ⌜ (r ≡ cond (eqb bit 1) new old) × (r < 256) ⌝ }
+{
+    if bit == 1 { new } else { old }
+}
+
+// The old word with the enabled bytes of the new one: bit i of enables covers byte i, and bits 4 and up cover none.
+pub fn merge(old: u32, new: u32, enables: u32) -> u32
+    ensures { λ r. ⌜ r ≡ merged old new enables ⌝ }
+{
+    chosen(enables % 2, new % 256, old % 256)
+        + 256 * chosen(enables / 2 % 2, new / 256 % 256, old / 256 % 256)
+        + 65536 * chosen(enables / 4 % 2, new / 65536 % 256, old / 65536 % 256)
+        + 16777216 * chosen(enables / 8 % 2, new / 16777216 % 256, old / 16777216 % 256)
+}
