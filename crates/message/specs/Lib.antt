@@ -2,3 +2,6 @@
 pub mod Limits
 pub mod Header
 pub mod Walk
+pub mod Request
+pub mod Answer
+pub mod Refusals

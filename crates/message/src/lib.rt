@@ -2,6 +2,7 @@
 // and the loader's end stand above it and know it by its contracts and laws.
 //
 // The contracts cite specs/: one short definition for each sentence of document 01, in the file named after the module.
+pub mod answer;
 pub mod header;
 pub mod refusal;
 pub mod walk;

@@ -145,3 +145,9 @@ pub fn step_at(byte0: u32, datagram: &[u8], at: usize) -> Step
     }
     step_on(byte0, word::word_at(datagram, at), n - at - 1)
 }
+
+// What the walk of a whole datagram tells: the words of the all-OK answer, or the refusal.
+pub enum Walked {
+    WellFormed(usize),
+    Malformed(Refusal),
+}
