@@ -1,2 +1,8 @@
 -- Laws of messages that belong to no one function; the crates above cite them.
 pub mod Headers
+pub mod Faults
+pub mod Round
+pub mod Back
+pub mod Exactly
+pub mod Standing
+pub mod Going

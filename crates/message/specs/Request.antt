@@ -88,7 +88,16 @@ lengthOk n = cond (eqb n 0) false (cond (eqb (n % 4) 0) (leb n limitBytes) false
 unfoldable pub read : List ℕ → Reading Request
 read dg = cond (lengthOk (length dg)) (ended (getD dg 0 0) (commandsFrom (getD dg 0 0) 0 (wordsOf dg))) (Wrong (refusal 2))
 
--- what the walk tells of it: the refusal, or the words of the all-OK answer
+-- what the walk tells at the end of its commands: 10, or the words of the all-OK answer
+unfoldable pub endOf : ℕ → Walked
+endOf answer = cond (leb answer limit) (WellFormed answer) (Malformed (refusal 10))
+
+-- and of commands that follow others whose answers have so many words
+unfoldable pub finish : ℕ → ℕ → Reading (List Command) → Walked
+finish byte0 answer (Wrong r) = Malformed r
+finish byte0 answer (Means cs) = endOf (answer + replies byte0 cs)
+
+-- what the walk tells of a datagram: the refusal, or the words of the all-OK answer
 abbrev pub walked : Reading Request → Walked
 walked (Wrong r) = Malformed r
 walked (Means r) = WellFormed (replies (r .byte0) (r .commands))
@@ -146,3 +155,9 @@ pub record FitsAsked (r : Request) : Type 0 where
 pub record Fits (r : Request) : Type 0 where
   pub asked : FitsAsked r
   pub answer : replies (r .byte0) (r .commands) ≤ limit
+
+-- from word `at` on, the words ws are the writing of the commands cs: what a second pass goes by, which judges nothing again
+pub record Stands (byte0 : ℕ) (ws : List ℕ) (at : ℕ) (cs : List Command) : Type 0 where
+  pub byte : byte0 < 256
+  pub fit : All (FitsCommand byte0) cs
+  pub is : drop at ws ≡ requestWords byte0 cs

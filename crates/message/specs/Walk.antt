@@ -68,3 +68,8 @@ stepOn byte0 h left = cond (eqb (faultOf byte0 h left) 0) (Read (headOf byte0 h)
 -- the same at word `at` of the words ws; "3 (no word there)"
 unfoldable pub stepAt : ℕ → List ℕ → ℕ → Step
 stepAt byte0 ws at = cond (ltb at (length ws)) (stepOn byte0 (getD ws at 0) (length ws - at - 1)) (Refused (refusal 3))
+
+-- the refusal of a step that refused; none is 0
+abbrev pub refusalOf : Step → Refusal
+refusalOf (Read d) = refusal 0
+refusalOf (Refused r) = r

@@ -5,6 +5,7 @@
 pub mod answer;
 pub mod header;
 pub mod refusal;
+pub mod request;
 pub mod walk;
 
 // The most words of a message, and the most bytes.

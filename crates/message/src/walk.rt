@@ -1,8 +1,11 @@
 // The walk of a request: one step at a header, and the whole of any datagram.
 ghost use mathlib.Core.Path.{_≡_};
-ghost use Prim.Native.Nat.{_<_};
+ghost use Prim.Native.Nat.{_<_, _≤_};
+ghost use lib.ListN.{length};
 ghost use Rattle.word.specs.Words.{wordsOf};
-ghost use Rattle.message.specs.Walk.{asks, countOk, patternOk, enablesOk, endsOk, faultOf, stepOn, stepAt};
+ghost use Rattle.message.specs.Walk.{asks, countOk, patternOk, enablesOk, endsOk, faultOf, stepOn, stepAt, refusalOf};
+ghost use Rattle.message.specs.Limits.{limitBytes};
+ghost use Rattle.message.specs.Request.{commandsFrom, lengthOk, endOf, finish, walkOf};
 ghost use Rattle.message.specs.Header.{kindOf, countOf, byte1Of, lastOf, bodyWords};
 use crate::header;
 use crate::header::Head;
@@ -150,4 +153,78 @@ pub fn step_at(byte0: u32, datagram: &[u8], at: usize) -> Step
 pub enum Walked {
     WellFormed(usize),
     Malformed(Refusal),
+}
+
+// The refusal that a step gave; 0 for a step that gave none.
+fn refusal_of(s: Step) -> Refusal
+    ensures { λ r. ⌜ r ≡ refusalOf s ⌝ }
+{
+    match s {
+        Step::Read(_) => Refusal { number: 0 },
+        Step::Refused(refusal) => refusal,
+    }
+}
+
+// Whether a datagram may have this many bytes.
+pub fn length_ok(bytes: usize) -> bool
+    ensures { λ r. ⌜ r ≡ lengthOk bytes ⌝ }
+{
+    if bytes == 0 {
+        return false;
+    }
+    if bytes % 4 != 0 {
+        return false;
+    }
+    bytes <= crate::LIMIT_BYTES
+}
+
+// After the LAST command: the words of the all-OK answer, or 10 where they pass the limit.
+fn end(answer: usize) -> Walked
+    ensures { λ r. ⌜ r ≡ endOf answer ⌝ }
+{
+    if crate::LIMIT < answer {
+        return Walked::Malformed(Refusal {
+            number: Refusal::ANSWER,
+        });
+    }
+    Walked::WellFormed(answer)
+}
+
+// The commands of a datagram of right length, whose byte 0 is this.
+fn walk_on(datagram: &[u8], byte0: u32) -> Walked
+    requires { ⌜ length (now datagram) ≤ limitBytes ⌝ }
+    ensures { λ r. ⌜ r ≡ finish byte0 0 (commandsFrom byte0 0 (wordsOf (now (datagram .entry)))) ⌝ }
+{
+    let mut at: usize = 0;
+    let mut answer: usize = 0;
+    loop {
+        let s = step_at(byte0, datagram, at);
+        let Step::Read(head) = s else {
+            return Walked::Malformed(refusal_of(s));
+        };
+        answer = answer + 1 + header::reply_words(header::kind_of(byte0), head.count);
+        if head.last {
+            return end(answer);
+        }
+        at = at + 1 + head.body;
+    }
+}
+
+// A byte as a number.
+fn wide(x: u8) -> u32
+    ensures { λ r. ⌜ (r ≡ x) × (r < 256) ⌝ }
+{
+    x as u32
+}
+
+// The walk of any datagram: the words of the all-OK answer, or the refusal 2 to 10.
+pub fn walk(datagram: &[u8]) -> Walked
+    ensures { λ r. ⌜ r ≡ walkOf (now (datagram .entry)) ⌝ }
+{
+    if !length_ok(datagram.len()) {
+        return Walked::Malformed(Refusal {
+            number: Refusal::LENGTH,
+        });
+    }
+    walk_on(datagram, wide(datagram[0]))
 }

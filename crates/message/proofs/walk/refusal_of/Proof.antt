@@ -1,0 +1,19 @@
+-- `message::walk::refusal_of` meets its contract: by the step. Assumes nothing.
+use borrow.Author.Needs.{needs}
+use Rattle.message.proofs.walk.refusal_of.Statement.{statement}
+use Rattle.message.proofs.walk.refusal_of.Tie as tie
+
+enum-told : tie.Need-enum-told
+enum-told c = search needs
+
+enum-known-s : tie.Need-enum-known-s
+enum-known-s c = search needs
+
+returns : tie.Need-returns
+returns c = rw (c .enum-told .given .1)
+
+returns-2 : tie.Need-returns-2
+returns-2 c = search needs
+
+pub refusal-of-spec : {M : Type 1} → statement M
+refusal-of-spec = tie.close (tie.spec enum-told enum-known-s returns returns-2)

@@ -1,0 +1,122 @@
+-- `message::walk::walk_on` meets its contract. The loop's invariant: what is left of the walk comes to the whole. Assumes nothing.
+use Rattle.message.specs.declared.refusal.Refusal.{Refusal}
+use Rattle.message.specs.declared.header.Kind.{Kind}
+use borrow.Author.Needs.{needs}
+use mathlib.Core.Path.{_≡_, sym, _∙_, ap}
+use Prim.Native.Nat.{_-_}
+use native.Mathlib.Omega.{arith}
+use denote.Ref.{now}
+use lib.ListN.{length}
+use Rattle.word.specs.Words.{wordsOf}
+use Rattle.word.proofs.Crossing.{length-wordsOf}
+use Rattle.message.specs.declared.walk.Step.the-variants.{Read, Refused}
+use Rattle.message.specs.declared.walk.Walked.the-variants.{Malformed}
+use Rattle.message.specs.Header.{kindOf, replyWords}
+use Rattle.message.specs.Walk.{stepAt, refusalOf}
+use Rattle.message.proofs.Going.{Going, got, going-starts, going-refused, going-last, going-small, going-on, going-less}
+use Rattle.message.proofs.walk.walk_on.Statement.{statement}
+use Rattle.message.proofs.walk.walk_on.Tie as tie
+
+abbrev Inv-loop : tie.InvT-loop
+Inv-loop datagram byte0 at₀ answer₀ at answer = Going byte0 (wordsOf datagram) at answer
+
+abbrev μ-loop : tie.MeasureT-loop
+μ-loop datagram byte0 at₀ answer₀ at answer = length (wordsOf datagram) - at
+
+-- the header that was read, and the words of its OK answer
+module _ (c : tie.After-s Inv-loop μ-loop) where
+  abbrev at-loop : tie.At-loop Inv-loop μ-loop
+  at-loop = c .before .before .before
+
+  was-read : stepAt (at-loop .before .before .args .byte0) (wordsOf (now (at-loop .before .before .args .datagram))) (at-loop .loop .at) ≡ Read (c .s .given .0 .0)
+  was-read = sym (c .before .before .step-at .ensures) ∙ c .s .given .1
+
+module _ (c : tie.After-reply-words Inv-loop μ-loop) where
+  abbrev read-at : tie.After-s Inv-loop μ-loop
+  read-at = c .before .before .before
+
+  reply-is : c .reply-words .result ≡ replyWords (kindOf (at-loop read-at .before .before .args .byte0)) (read-at .s .given .0 .0 .count)
+  reply-is = c .reply-words .ensures .0 ∙ ap (λ (k : Kind). replyWords k (read-at .s .given .0 .0 .count)) (c .before .kind-of .ensures)
+
+loop-holds : tie.Need-loop-holds Inv-loop μ-loop
+loop-holds c = going-starts _ _ (omega (arith, length-wordsOf (c .before .args .datagram .now)))
+
+step-at-requires : tie.Need-step-at-requires Inv-loop μ-loop
+step-at-requires c κs = search needs
+
+enum-known-s : tie.Need-enum-known-s Inv-loop μ-loop
+enum-known-s c = search needs
+
+enum-told : tie.Need-enum-told Inv-loop μ-loop
+enum-told c = search needs
+
+refusal-of-requires : tie.Need-refusal-of-requires Inv-loop μ-loop
+refusal-of-requires c κs = search needs
+
+returns : tie.Need-returns Inv-loop μ-loop
+returns c =
+    let t = c .before .enum-told .given .1 in
+    let g = c .before .before .before .before .loop .inv in
+    ap Malformed (c .refusal-of .ensures ∙ ap refusalOf t) ∙ going-refused g _ (sym (c .before .before .before .step-at .ensures) ∙ t)
+
+add-answer : tie.Need-add-answer Inv-loop μ-loop
+add-answer c = let g = at-loop (c .before) .loop .inv in omega (arith, g .small, g .within, g .most)
+
+kind-of-requires : tie.Need-kind-of-requires Inv-loop μ-loop
+kind-of-requires c κs = search needs
+
+reply-words-requires : tie.Need-reply-words-requires Inv-loop μ-loop
+reply-words-requires c κs = search needs
+
+add-answer-2 : tie.Need-add-answer-2 Inv-loop μ-loop
+add-answer-2 c =
+    let a = read-at c in
+    let g = at-loop a .loop .inv in
+    omega (arith, going-small g _ (was-read a), g .within, g .most, reply-is c)
+
+end-requires : tie.Need-end-requires Inv-loop μ-loop
+end-requires c κs = search needs
+
+returns-2 : tie.Need-returns-2 Inv-loop μ-loop
+returns-2 c =
+    let a = read-at (c .before .before) in
+    c .end .ensures ∙ rw (reply-is (c .before .before)) (going-last (at-loop a .loop .inv) _ (was-read a) (c .before .if1 .taken))
+
+add-at : tie.Need-add-at Inv-loop μ-loop
+add-at c = let g = at-loop (read-at (c .before)) .loop .inv in omega (arith, g .within, g .most)
+
+add-at-2 : tie.Need-add-at-2 Inv-loop μ-loop
+add-at-2 c =
+    let a = read-at (c .before .before) in
+    omega (arith, got _ _ _ _ (was-read a) .within, at-loop a .loop .inv .most)
+
+loop-less : tie.Need-loop-less Inv-loop μ-loop
+loop-less c = let a = read-at (c .before .before) in going-less (at-loop a .loop .inv) _ (was-read a)
+
+loop-again : tie.Need-loop-again Inv-loop μ-loop
+loop-again c =
+    let a = read-at (c .before .before) in
+    rw (reply-is (c .before .before)) (going-on (at-loop a .loop .inv) _ (was-read a) (c .before .if1 .left))
+
+pub walk-on-spec : {M : Type 1} → statement M
+walk-on-spec =
+    tie.close
+    (tie.spec
+    Inv-loop
+    μ-loop
+    loop-holds
+    step-at-requires
+    enum-known-s
+    enum-told
+    refusal-of-requires
+    returns
+    add-answer
+    kind-of-requires
+    reply-words-requires
+    add-answer-2
+    end-requires
+    returns-2
+    add-at
+    add-at-2
+    loop-less
+    loop-again)
