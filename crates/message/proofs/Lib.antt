@@ -6,3 +6,5 @@ pub mod Back
 pub mod Exactly
 pub mod Standing
 pub mod Going
+pub mod Answers
+pub mod Judged

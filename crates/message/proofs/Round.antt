@@ -40,7 +40,7 @@ address-words (suc zero) a h = (h, tt)
 address-words (suc (suc n)) a h = (omega arith, (omega arith, tt))
 
 -- LAST, and how many words are left behind a body of n
-ends-at : (l : Bool) (n m : ℕ) → (l ≡ true → m ≡ 0) → endsOk l n (n + m) ≡ true
+pub ends-at : (l : Bool) (n m : ℕ) → (l ≡ true → m ≡ 0) → endsOk l n (n + m) ≡ true
 ends-at true n m h = eq-eqb (n + m) n (omega (arith, h refl))
 ends-at false n m h = refl
 

@@ -1,4 +1,5 @@
--- The refusals 2 to 10 in their own words, apart from the walk: what `proofs/Exactly.antt` shows of `read`. Assumes nothing.
+-- The refusals in their own words, apart from the walk: what `proofs/Exactly.antt` shows of `read` and `proofs/Judged.antt` of
+-- `judge`. Assumes nothing.
 use Prim.Native.Nat.{ℕ, suc, _<_, _≤_}
 use mathlib.Core.Path.{_≡_}
 use mathlib.Core.Logic.{_↔_}
@@ -8,6 +9,7 @@ use lib.ListN.{length, getD}
 use Rattle.word.specs.Words.{wordsOf, Bytes}
 use Rattle.message.specs.Limits.{limit}
 use Rattle.message.specs.Walk.{refusal, faultOf}
+use Rattle.message.specs.Answer.{Answered, judge, encodeAnswer, FitsAnswer}
 use Rattle.message.specs.Request.{Command, Request, Reading, Wrong, Means, read, replies, lengthOk, commandWords, written, FitsCommand, All, FitsAsked, Fits}
 
 -- commands that others follow: none of them is LAST
@@ -41,3 +43,7 @@ pub record Exactly (dg : List ℕ) : Type 0 where
   pub faults : (n : ℕ) → 3 ≤ n → n ≤ 9 → (read dg ≡ Wrong (refusal n)) ↔ ((lengthOk (length dg) ≡ true) × FaultAfter (getD dg 0 0) n (wordsOf dg))
   pub ten : (read dg ≡ Wrong (refusal 10)) ↔ TooLong dg
   pub fine : (r : Request) → (read dg ≡ Means r) ↔ (Fits r × (dg ≡ written r))
+
+-- an answer is accepted exactly if it is the encoding of a list that fits the request
+unfoldable pub AcceptsExactly : Request → List ℕ → Type 0
+AcceptsExactly r dg = (items : List Answered) → (judge r dg ≡ Means items) ↔ (FitsAnswer r items × (dg ≡ encodeAnswer r items))

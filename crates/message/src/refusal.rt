@@ -23,4 +23,12 @@ impl Refusal {
     pub const AFTER_LAST: u32 = 9;
     // The answer with all commands OK would pass the limit.
     pub const ANSWER: u32 = 10;
+    // An answer's length is 0, not a multiple of 4, or over the limit.
+    pub const ANSWER_LENGTH: u32 = 32;
+    // An answer's byte 0 is not the request's with kind 3.
+    pub const ANSWER_BYTE0: u32 = 33;
+    // A later byte 0 differs, reserved or bits 15:12 set, status 3 or more, or count wrong.
+    pub const ANSWER_HEADER: u32 = 34;
+    // A header or a body past the end, LAST missing or early, or words after it.
+    pub const ANSWER_END: u32 = 35;
 }

@@ -82,16 +82,21 @@ fn enables_fit(byte0: u32, h: u32) -> bool
     enables_ok(header::kind_of(byte0), header::count(h), header::byte1(h))
 }
 
-// Whether the words left are a LAST command's body and no more.
-fn ends_fit(byte0: u32, h: u32, left: usize) -> bool
-    ensures { λ r. ⌜ r ≡ endsOk (lastOf h) (bodyWords byte0 (countOf h)) left ⌝ }
+// Whether nothing follows the body of a LAST command.
+pub fn ends_ok(last: bool, body: usize, left: usize) -> bool
+    ensures { λ r. ⌜ r ≡ endsOk last body left ⌝ }
 {
-    let last = header::last(h);
-    let body = header::body_words(byte0, h);
     if last {
         return left == body;
     }
     true
+}
+
+// The same of a header with `left` words after it.
+fn ends_fit(byte0: u32, h: u32, left: usize) -> bool
+    ensures { λ r. ⌜ r ≡ endsOk (lastOf h) (bodyWords byte0 (countOf h)) left ⌝ }
+{
+    ends_ok(header::last(h), header::body_words(byte0, h), left)
 }
 
 // The first fault of a header h with `left` words after it, in the document's order, or 0.
