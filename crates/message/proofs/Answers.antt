@@ -99,11 +99,18 @@ module _ (byte0 count : ℕ) (last : Bool) (h left : ℕ) where
         counted = eqb-true _ _ (p4 .0);
         within = leb-true _ _ (p5 .0);
         stopped = same-flag _ _ (p6 .0);
-        ends = p7 .0
+        ends = p7 .0;
       }
 
   pub fair-fault : Fair byte0 count last h left → answerFault byte0 count last h left ≡ 0
   unfolding answerFault
   fair-fault f =
-      rw (eq-eqb _ _ (f .same), eq-eqb _ _ (f .clear), lt-ltb _ _ (f .known), eq-eqb _ _ (f .counted), le-leb _ _ (f .within),
-          flag-same _ _ (f .stopped), f .ends)
+      rw (
+        eq-eqb _ _ (f .same),
+        eq-eqb _ _ (f .clear),
+        lt-ltb _ _ (f .known),
+        eq-eqb _ _ (f .counted),
+        le-leb _ _ (f .within),
+        flag-same _ _ (f .stopped),
+        f .ends,
+      )

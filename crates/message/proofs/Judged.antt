@@ -33,8 +33,16 @@ unfolding lookOn
 look-item byte0 count last h left e = rw (eq-eqb _ _ e)
 
 module _ (byte0 : ℕ) where
+  -- an answer's header is made of fields that fit
+  record Made (a : Answered) : Type 0 where
+    code : codeOf (a .status) < 256
+    count : length (a .payload) < 4096
+
+  made : (c : Command) (a : Answered) → FitsCommand byte0 c → FitsAnswered byte0 c a → Made a
+  made c a g f = record { code = omega (arith, code-lt (a .status)); count = omega (arith, f .long, wanted-le byte0 (c .count) (a .status), g .twelve) }
+
   -- one answer's words, whatever follows them where LAST is clear
-  module _ (c : Command) (cs : List Command) (a : Answered) (hc : c .count < 4096) (f : FitsAnswered byte0 c a) (r : List ℕ) (b : Bool)
+  module _ (c : Command) (cs : List Command) (a : Answered) (g : FitsCommand byte0 c) (f : FitsAnswered byte0 c a) (r : List ℕ) (b : Bool)
       (z : stops (a .status) (none cs) ≡ b) (e : b ≡ true → length r ≡ 0) where
     abbrev n : ℕ
     n = length (a .payload)
@@ -43,10 +51,10 @@ module _ (byte0 : ℕ) where
     h = headerFrom (answerByte byte0) (codeOf (a .status)) n b
 
     hs : codeOf (a .status) < 256
-    hs = omega (arith, code-lt (a .status))
+    hs = made c a g f .code
 
     hn : n < 4096
-    hn = omega (arith, f .long, wanted-le byte0 (c .count) (a .status))
+    hn = made c a g f .count
 
     status-is : statusNo (byte1Of h) ≡ a .status
     status-is = rw (byte1-back (answerByte byte0) _ _ b (answer-lt byte0) hs hn) (status-code (a .status))
@@ -62,17 +70,22 @@ module _ (byte0 : ℕ) where
           counted = rw (cn, status-is) (f .long);
           within = rw cn (omega arith);
           stopped = rw (la, status-is) (sym z);
-          ends = rw (la, cn) (ends-at b n (length r) e)
+          ends = rw (la, cn) (ends-at b n (length r) e);
         }
 
     answered-back : answersFrom byte0 (c ∷ cs) (answeredWords (answerByte byte0) b a ++ r) ≡ cond b (Means (a ∷ [])) (before a (answersFrom byte0 cs r))
     unfolding answersFrom answeredWords seenOf
     answered-back =
         let look : lookOn byte0 (c .count) (none cs) h (length (a .payload ++ r)) ≡ Item (seenOf h) =
-            rw (length-append (a .payload) r) (look-item byte0 (c .count) (none cs) h _ (fair-fault byte0 (c .count) (none cs) h _ fair-header)) in
-        rw (look, last-back (answerByte byte0) (codeOf (a .status)) n b (answer-lt byte0) hs hn, status-is,
-            count-back (answerByte byte0) (codeOf (a .status)) n b (answer-lt byte0) hs hn,
-            take-at (a .payload) r n refl, drop-at (a .payload) r n refl)
+        rw (length-append (a .payload) r) (look-item byte0 (c .count) (none cs) h _ (fair-fault byte0 (c .count) (none cs) h _ fair-header)) in
+        rw (
+          look,
+          last-back (answerByte byte0) (codeOf (a .status)) n b (answer-lt byte0) hs hn,
+          status-is,
+          count-back (answerByte byte0) (codeOf (a .status)) n b (answer-lt byte0) hs hn,
+          take-at (a .payload) r n refl,
+          drop-at (a .payload) r n refl,
+        )
 
   -- LAST stands where the answers end
   ends-none : (cs : List Command) (items : List Answered) (b : Bool) → cond b (items ≡ []) (FitsAnswers byte0 cs items) → none items ≡ b
@@ -89,14 +102,14 @@ module _ (byte0 : ℕ) where
   answers-back (c ∷ cs) (a ∷ items) g f = go (λ x. answers-back cs items (g .1) x) (stops (a .status) (none cs)) refl (f .1)
     where
       go : (FitsAnswers byte0 cs items → answersFrom byte0 cs (answerWords (answerByte byte0) items) ≡ Means items)
-         → (b : Bool) → stops (a .status) (none cs) ≡ b → cond b (items ≡ []) (FitsAnswers byte0 cs items)
-         → answersFrom byte0 (c ∷ cs) (answeredWords (answerByte byte0) (none items) a ++ answerWords (answerByte byte0) items) ≡ Means (a ∷ items)
+          → (b : Bool) → stops (a .status) (none cs) ≡ b → cond b (items ≡ []) (FitsAnswers byte0 cs items)
+          → answersFrom byte0 (c ∷ cs) (answeredWords (answerByte byte0) (none items) a ++ answerWords (answerByte byte0) items) ≡ Means (a ∷ items)
       go ih true z x =
           let e : length (answerWords (answerByte byte0) items) ≡ 0 = rw x in
-          rw (ends-none cs items true x) (answered-back c cs a (g .0 .twelve) (f .0) (answerWords (answerByte byte0) items) true z (λ t. e) ∙ rw x)
+          rw (ends-none cs items true x) (answered-back c cs a (g .0) (f .0) (answerWords (answerByte byte0) items) true z (λ t. e) ∙ rw x)
       go ih false z x =
           rw (ends-none cs items false x)
-          (answered-back c cs a (g .0 .twelve) (f .0) (answerWords (answerByte byte0) items) false z (λ t. absurd (false≢true t)) ∙ rw (ih x))
+          (answered-back c cs a (g .0) (f .0) (answerWords (answerByte byte0) items) false z (λ t. absurd (false≢true t)) ∙ rw (ih x))
 
   -- an answer that fits is no longer than the all-OK answer, has a word, and its words are words
   pub answers-long : (cs : List Command) (items : List Answered) → FitsAnswers byte0 cs items → length (answerWords (answerByte byte0) items) ≤ replies byte0 cs
@@ -108,17 +121,9 @@ module _ (byte0 : ℕ) where
       simp length-append (omega (arith, f .0 .long, wanted-reply byte0 (c .count) (a .status)))
     where
       go : (FitsAnswers byte0 cs items → length (answerWords (answerByte byte0) items) ≤ replies byte0 cs)
-         → (b : Bool) → cond b (items ≡ []) (FitsAnswers byte0 cs items) → length (answerWords (answerByte byte0) items) ≤ replies byte0 cs
+          → (b : Bool) → cond b (items ≡ []) (FitsAnswers byte0 cs items) → length (answerWords (answerByte byte0) items) ≤ replies byte0 cs
       go ih true x = rw x (omega arith)
       go ih false x = ih x
-
-  -- an answer's header is made of fields that fit
-  record Made (a : Answered) : Type 0 where
-    code : codeOf (a .status) < 256
-    count : length (a .payload) < 4096
-
-  made : (c : Command) (a : Answered) → FitsCommand byte0 c → FitsAnswered byte0 c a → Made a
-  made c a g f = record { code = omega (arith, code-lt (a .status)); count = omega (arith, f .long, wanted-le byte0 (c .count) (a .status), g .twelve) }
 
   answers-first : (cs : List Command) (items : List Answered) → All (FitsCommand byte0) cs → FitsAnswers byte0 cs items
       → (0 < length (answerWords (answerByte byte0) items)) × (getD (bytesOf (answerWords (answerByte byte0) items)) 0 0 ≡ answerByte byte0)
@@ -134,12 +139,13 @@ module _ (byte0 : ℕ) where
   answers-words cs [] g f = absurd f
   answers-words [] (a ∷ items) g f = absurd f
   answers-words (c ∷ cs) (a ∷ items) g f =
-      let m = made c a (g .0) (f .0) in
-      (header-lt (answerByte byte0) (codeOf (a .status)) (length (a .payload)) (none items) (answer-lt byte0) (m .code) (m .count),
-       below-append _ (a .payload) (answerWords (answerByte byte0) items) (f .0 .words) (go (λ x. answers-words cs items (g .1) x) (stops (a .status) (none cs)) (f .1)))
+      let m = made c a (g .0) (f .0) in (
+        header-lt (answerByte byte0) (codeOf (a .status)) (length (a .payload)) (none items) (answer-lt byte0) (m .code) (m .count),
+        below-append _ (a .payload) (answerWords (answerByte byte0) items) (f .0 .words) (go (λ x. answers-words cs items (g .1) x) (stops (a .status) (none cs)) (f .1)),
+      )
     where
       go : (FitsAnswers byte0 cs items → Words (answerWords (answerByte byte0) items)) → (b : Bool) → cond b (items ≡ []) (FitsAnswers byte0 cs items)
-         → Words (answerWords (answerByte byte0) items)
+          → Words (answerWords (answerByte byte0) items)
       go ih true x = rw x tt
       go ih false x = ih x
 
@@ -187,18 +193,19 @@ module _ (byte0 : ℕ) where
       go (λ n x y. answers-is cs (drop n rest) x (below-drop _ n rest (e .1)) y) (eqb (answerFault byte0 (c .count) (none cs) h (length rest)) 0) refl m
     where
       by : Fair byte0 (c .count) (none cs) h (length rest)
-         → ((n : ℕ) (x : List Answered) → answersFrom byte0 cs (drop n rest) ≡ Means x → Answer cs (drop n rest) x)
-         → (b : Bool) → lastOf h ≡ b
-         → cond b (Means (itemOf h rest ∷ [])) (before (itemOf h rest) (answersFrom byte0 cs (drop (countOf h) rest))) ≡ Means items
-         → Answer (c ∷ cs) (h ∷ rest) items
+          → ((n : ℕ) (x : List Answered) → answersFrom byte0 cs (drop n rest) ≡ Means x → Answer cs (drop n rest) x)
+          → (b : Bool) → lastOf h ≡ b
+          → cond b (Means (itemOf h rest ∷ [])) (before (itemOf h rest) (answersFrom byte0 cs (drop (countOf h) rest))) ≡ Means items
+          → Answer (c ∷ cs) (h ∷ rest) items
       by f ih true l x = let is : itemOf h rest ∷ [] ≡ items = cc in rw (← is) (last-answer c cs h rest f (e .0) (e .1) l)
       by f ih false l x =
           let t = before-is (itemOf h rest) (answersFrom byte0 cs (drop (countOf h) rest)) items x in
           rw (t .2) (more-answers c cs h rest f (e .0) (e .1) l (t .0) (ih (countOf h) (t .0) (t .1)))
+
       go : ((n : ℕ) (x : List Answered) → answersFrom byte0 cs (drop n rest) ≡ Means x → Answer cs (drop n rest) x)
-         → (b : Bool) → eqb (answerFault byte0 (c .count) (none cs) h (length rest)) 0 ≡ b
-         → lookTurn (cond b (Item (seenOf h)) (Bad (refusal (answerFault byte0 (c .count) (none cs) h (length rest))))) rest (λ n. answersFrom byte0 cs (drop n rest)) ≡ Means items
-         → Answer (c ∷ cs) (h ∷ rest) items
+          → (b : Bool) → eqb (answerFault byte0 (c .count) (none cs) h (length rest)) 0 ≡ b
+          → lookTurn (cond b (Item (seenOf h)) (Bad (refusal (answerFault byte0 (c .count) (none cs) h (length rest))))) rest (λ n. answersFrom byte0 cs (drop n rest)) ≡ Means items
+          → Answer (c ∷ cs) (h ∷ rest) items
       go ih false z x = no-mean x
       go ih true z x = by (fair byte0 (c .count) (none cs) h (length rest) (eqb-true _ _ z)) ih (lastOf h) refl x
 
@@ -210,8 +217,12 @@ judge-encoded r items f g =
     let all = f .asked .all in
     let ws = answerWords (answerByte b) items in
     let first = answers-first b (r .commands) items all g in
-    rw (length-right ws (first .0) (omega (arith, answers-long b (r .commands) items g, f .answer)), first .1, eq-eqb (answerByte b) (answerByte b) refl,
-        words-back ws (answers-words b (r .commands) items all g))
+    rw (
+      length-right ws (first .0) (omega (arith, answers-long b (r .commands) items g, f .answer)),
+      first .1,
+      eq-eqb (answerByte b) (answerByte b) refl,
+      words-back ws (answers-words b (r .commands) items all g),
+    )
     (answers-back b (r .commands) items all g)
 
 -- and what is accepted is a fitting list's encoding

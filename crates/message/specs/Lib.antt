@@ -5,3 +5,4 @@ pub mod Walk
 pub mod Request
 pub mod Answer
 pub mod Refusals
+pub mod Examples

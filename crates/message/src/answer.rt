@@ -58,7 +58,12 @@ pub fn code(status: Status) -> u32
 pub fn answer_byte(byte0: u32) -> u32
     ensures { λ r. ⌜ (r ≡ answerByte byte0) × (r < 256) ⌝ }
 {
-    header::byte0_from(header::tag(byte0), Kind::Response, header::wide(byte0), header::discovery(byte0))
+    header::byte0_from(
+        header::tag(byte0),
+        Kind::Response,
+        header::wide(byte0),
+        header::discovery(byte0),
+    )
 }
 
 // The data words of the answer to a command with this count.

@@ -1,0 +1,143 @@
+-- Worked and hostile examples, from bytes, with the number that each must get. `proofs/Worked.antt` computes them. Assumes nothing.
+use Prim.Native.Nat.{ℕ}
+use mathlib.Core.Bool.{Bool, true, false, _&&_}
+use mathlib.Core.List.{List, [], _∷_}
+use lib.Dec.{eqb}
+use Rattle.word.specs.Words.{bytesOf}
+use Rattle.message.specs.Request.{Request, Reading, Wrong, Means, read}
+use Rattle.message.specs.Answer.{Answered, judge}
+
+-- the number of a refusal; 0 where there is none
+abbrev pub numberOf : {A : Type 0} → Reading A → ℕ
+numberOf (Wrong r) = r .number
+numberOf (Means a) = 0
+
+-- a datagram, and the number that it gets
+pub record Example : Type 0 where
+  pub datagram : List ℕ
+  pub number : ℕ
+
+abbrev pub words : List ℕ → ℕ → Example
+words ws n = record { datagram = bytesOf ws; number = n }
+
+abbrev pub bytes : List ℕ → ℕ → Example
+bytes bs n = record { datagram = bs; number = n }
+
+unfoldable pub requests : List Example
+requests =
+    -- good ones: a write, a read whose byte 1 is not looked at, a NOP of no words, no byte enabled, two commands, 64 bits
+    words (0x80010F10 ∷ 0x00000004 ∷ 0xFEEDC0DE ∷ []) 0
+    ∷ words (0x8001FF20 ∷ 0x00000010 ∷ []) 0
+    ∷ words (0x80000000 ∷ []) 0
+    ∷ words (0x80010010 ∷ 0x00000004 ∷ 0xFEEDC0DE ∷ []) 0
+    ∷ words (0x00010F10 ∷ 0x00000000 ∷ 0x11111111 ∷ 0x80010F10 ∷ 0x00000020 ∷ 0x22222222 ∷ []) 0
+    ∷ words (0x80010F50 ∷ 0x00000004 ∷ 0x00000001 ∷ 0x00000000 ∷ []) 0
+    -- nothing, and three bytes; truncated in a header, in an address, in a second address word, in a body
+    ∷ bytes [] 2
+    ∷ bytes (16 ∷ 15 ∷ 1 ∷ []) 2
+    ∷ bytes (16 ∷ 15 ∷ 1 ∷ 128 ∷ 4 ∷ []) 2
+    ∷ words (0x80010F10 ∷ []) 3
+    ∷ words (0x80010F50 ∷ 0x00000004 ∷ []) 3
+    ∷ words (0x8002FF10 ∷ 0x00000004 ∷ 0x11111111 ∷ []) 3
+    -- LAST missing; LAST early; extra words
+    ∷ words (0x00010F10 ∷ 0x00000004 ∷ 0x11111111 ∷ []) 3
+    ∷ words (0x80010F10 ∷ 0x00000004 ∷ 0x11111111 ∷ 0x80010F10 ∷ 0x00000008 ∷ 0x22222222 ∷ []) 9
+    ∷ words (0x80010F10 ∷ 0x00000004 ∷ 0x11111111 ∷ 0x00000000 ∷ []) 9
+    -- byte 0 changed midway: tag, kind, width, discovery
+    ∷ words (0x00010F10 ∷ 0x00000000 ∷ 0x11111111 ∷ 0x80010F11 ∷ 0x00000004 ∷ 0x22222222 ∷ []) 4
+    ∷ words (0x00010F10 ∷ 0x00000000 ∷ 0x11111111 ∷ 0x80010020 ∷ 0x00000004 ∷ []) 4
+    ∷ words (0x00010F10 ∷ 0x00000000 ∷ 0x11111111 ∷ 0x80010F50 ∷ 0x00000004 ∷ 0x00000000 ∷ 0x22222222 ∷ []) 4
+    ∷ words (0x00010F10 ∷ 0x00000000 ∷ 0x11111111 ∷ 0x80010F90 ∷ 0x00000004 ∷ 0x22222222 ∷ []) 4
+    -- kind 3 first, and later
+    ∷ words (0x80000030 ∷ []) 5
+    ∷ words (0x00010F10 ∷ 0x00000000 ∷ 0x11111111 ∷ 0x80000030 ∷ []) 4
+    -- each reserved bit
+    ∷ words (0x90010F10 ∷ 0x00000004 ∷ 0x00000000 ∷ []) 6
+    ∷ words (0xA0010F10 ∷ 0x00000004 ∷ 0x00000000 ∷ []) 6
+    ∷ words (0xC0010F10 ∷ 0x00000004 ∷ 0x00000000 ∷ []) 6
+    -- count 0 of a write and of a read; 3 of a NOP; 4,095 of a NOP, of a write and of a read
+    ∷ words (0x80000F10 ∷ 0x00000004 ∷ []) 7
+    ∷ words (0x80000020 ∷ 0x00000004 ∷ []) 7
+    ∷ words (0x80030000 ∷ 0x00000001 ∷ 0x00000002 ∷ 0x00000003 ∷ []) 7
+    ∷ words (0x8FFF0000 ∷ []) 7
+    ∷ words (0x8FFFFF10 ∷ 0x00000000 ∷ []) 3
+    ∷ words (0x8FFF0020 ∷ 0x00000000 ∷ []) 10
+    -- enables: a last field with count 1; a first or a last field of 0 with count 2
+    ∷ words (0x80011F10 ∷ 0x00000004 ∷ 0x00000000 ∷ []) 8
+    ∷ words (0x8002F010 ∷ 0x00000004 ∷ 0x00000000 ∷ 0x00000000 ∷ []) 8
+    ∷ words (0x80020F10 ∷ 0x00000004 ∷ 0x00000000 ∷ 0x00000000 ∷ []) 8
+    -- a read whose answer just fits, and one that is one too long; two reads that are one too long together
+    ∷ words (0x816F0020 ∷ 0x00000000 ∷ []) 0
+    ∷ words (0x81700020 ∷ 0x00000000 ∷ []) 10
+    ∷ words (0x00B70020 ∷ 0x00000000 ∷ 0x80B70020 ∷ 0x00000000 ∷ []) 0
+    ∷ words (0x00B70020 ∷ 0x00000000 ∷ 0x80B80020 ∷ 0x00000000 ∷ []) 10
+    -- two faults in one header: the lower place in the order decides
+    ∷ words (0xF0000030 ∷ []) 5
+    ∷ words (0xF0000F10 ∷ []) 6
+    ∷ words (0x8000FF10 ∷ []) 7
+    ∷ words (0x80011F10 ∷ []) 8
+    ∷ []
+
+abbrev pub right : Example → Bool
+right e = eqb (numberOf (read (e .datagram))) (e .number)
+
+-- an answer to a request, and the number that it gets
+pub record AnswerExample : Type 0 where
+  pub request : List ℕ
+  pub answer : List ℕ
+  pub number : ℕ
+
+abbrev pub reply : List ℕ → List ℕ → ℕ → AnswerExample
+reply ws vs n = record { request = bytesOf ws; answer = bytesOf vs; number = n }
+
+-- a read of one word, a write of one word, and two writes
+abbrev pub oneRead : List ℕ
+oneRead = 0x80010023 ∷ 0x00000010 ∷ []
+
+abbrev pub oneWrite : List ℕ
+oneWrite = 0x80010F13 ∷ 0x00000004 ∷ 0xFEEDC0DE ∷ []
+
+abbrev pub twoWrites : List ℕ
+twoWrites = 0x00010F13 ∷ 0x00000000 ∷ 0x11111111 ∷ 0x80010F13 ∷ 0x00000004 ∷ 0x22222222 ∷ []
+
+unfoldable pub answers : List AnswerExample
+answers =
+    reply oneRead (0x80010033 ∷ 0xF00DFACE ∷ []) 0
+    ∷ reply oneRead (0x80000233 ∷ []) 0
+    ∷ reply oneWrite (0x80000033 ∷ []) 0
+    ∷ reply oneWrite (0x80000133 ∷ []) 0
+    ∷ reply twoWrites (0x00000033 ∷ 0x80000033 ∷ []) 0
+    ∷ reply twoWrites (0x80000233 ∷ []) 0
+    ∷ reply twoWrites (0x00000033 ∷ 0x80000233 ∷ []) 0
+    -- no bytes; another tag, discovery; a request in its place
+    ∷ reply oneRead [] 32
+    ∷ reply oneRead (0x80010032 ∷ 0xF00DFACE ∷ []) 33
+    ∷ reply oneRead (0x800100B3 ∷ 0xF00DFACE ∷ []) 33
+    ∷ reply oneRead oneRead 33
+    -- a later byte 0; a reserved bit; bits 15:12; status 3; counts
+    ∷ reply twoWrites (0x00000033 ∷ 0x80000032 ∷ []) 34
+    ∷ reply oneWrite (0x90000033 ∷ []) 34
+    ∷ reply oneWrite (0x80001033 ∷ []) 34
+    ∷ reply oneWrite (0x80000333 ∷ []) 34
+    ∷ reply oneRead (0x80000033 ∷ []) 34
+    ∷ reply oneWrite (0x80010033 ∷ 0x00000000 ∷ []) 34
+    ∷ reply oneRead (0x80010233 ∷ 0xF00DFACE ∷ []) 34
+    -- a body past the end; no word there; LAST missing, early, on no Error; words after it
+    ∷ reply oneRead (0x80010033 ∷ []) 35
+    ∷ reply twoWrites (0x00000033 ∷ []) 35
+    ∷ reply oneWrite (0x00000033 ∷ []) 35
+    ∷ reply twoWrites (0x80000033 ∷ 0x80000033 ∷ []) 35
+    ∷ reply twoWrites (0x00000233 ∷ 0x80000033 ∷ []) 35
+    ∷ reply oneWrite (0x80000033 ∷ 0x00000000 ∷ []) 35
+    ∷ []
+
+abbrev pub judged : Reading Request → List ℕ → ℕ
+judged (Wrong r) dg = 31
+judged (Means r) dg = numberOf (judge r dg)
+
+abbrev pub rightAnswer : AnswerExample → Bool
+rightAnswer e = eqb (judged (read (e .request)) (e .answer)) (e .number)
+
+abbrev pub every : {A : Type 0} → (A → Bool) → List A → Bool
+every f [] = true
+every f (x ∷ xs) = f x && every f xs
