@@ -21,7 +21,8 @@ use Rattle.message.specs.Header.{kindOf, countOf, lastOf, bodyWords, rep
 use Rattle.message.specs.Walk.{refusal, faultOf, stepOn, stepAt}
 use Rattle.message.specs.Request.{Command, Request, Reading, Wrong, Means, commandOf, before, turn, commandsFrom, replies, ended, endOf, finish, walked, lengthOk, read, walkOf}
 use Rattle.message.proofs.Headers.{reply-le}
-use Rattle.message.proofs.Faults.{Sound, sound, skipped}
+use Rattle.message.proofs.Faults.{Sound, sound, skipped, past}
+use Rattle.message.proofs.Back.{Right, right, ended-is}
 
 -- a step whose words behind it read the same
 turn-same : (s : Step) (c : Command) (f g : ℕ → Reading (List Command)) → ((n : ℕ) → f n ≡ g n) → turn s c f ≡ turn s c g
@@ -144,3 +145,32 @@ walk-long dg e = rw e
 pub walk-whole : (dg : List ℕ) (byte0 : ℕ) → lengthOk (length dg) ≡ true → byte0 ≡ getD dg 0 0 → finish byte0 0 (commandsFrom byte0 0 (wordsOf dg)) ≡ walkOf dg
 unfolding walkOf read
 walk-whole dg byte0 l e = rw (l, e) (walked-ended (getD dg 0 0) (commandsFrom (getD dg 0 0) 0 (wordsOf dg)))
+
+-- what a walk that lets by means, and one that refuses
+pub record Meant (dg : List ℕ) (answer : ℕ) : Type 0 where
+  pub meaning : Request
+  pub is : read dg ≡ Means meaning
+  pub answers : answer ≡ replies (meaning .byte0) (meaning .commands)
+
+pub walk-means : (dg : List ℕ) (answer : ℕ) → walkOf dg ≡ WellFormed answer → Meant dg answer
+unfolding walkOf
+walk-means dg answer e = go (read dg) refl e
+  where
+    go : (p : Reading Request) → read dg ≡ p → walked p ≡ WellFormed answer → Meant dg answer
+    go (Wrong r) z x = let n : _≡_ {A = ℕ} 0 1 = cc in absurd (omega arith)
+    go (Means r) z x = record { meaning = r; is = z; answers = cc }
+
+pub walk-wrong : (dg : List ℕ) (r : Refusal) → walkOf dg ≡ Malformed r → read dg ≡ Wrong r
+unfolding walkOf
+walk-wrong dg r e = go (read dg) refl e
+  where
+    go : (p : Reading Request) → read dg ≡ p → walked p ≡ Malformed r → read dg ≡ Wrong r
+    go (Wrong q) z x = let n : q ≡ r = cc in z ∙ ap Wrong n
+    go (Means m) z x = let n : _≡_ {A = ℕ} 0 1 = cc in absurd (omega arith)
+
+-- an accepted datagram has a right length, and its first byte is the request's byte 0
+pub read-first : (dg : List ℕ) (r : Request) → read dg ≡ Means r → Right (length dg) × (getD dg 0 0 ≡ r .byte0)
+unfolding read
+read-first dg r m =
+    let p = past (lengthOk (length dg)) _ _ m in
+    (right (length dg) (p .0), sym (ended-is (getD dg 0 0) (commandsFrom (getD dg 0 0) 0 (wordsOf dg)) r (p .1) .0))

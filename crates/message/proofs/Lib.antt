@@ -8,4 +8,5 @@ pub mod Standing
 pub mod Going
 pub mod Answers
 pub mod Judged
+pub mod Looking
 pub mod Worked
