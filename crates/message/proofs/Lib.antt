@@ -10,3 +10,4 @@ pub mod Answers
 pub mod Judged
 pub mod Looking
 pub mod Worked
+pub mod Answering

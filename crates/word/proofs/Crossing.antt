@@ -16,7 +16,7 @@ joined : (a b c d m n x : ℕ) → m ≡ b * 256 + a → n ≡ c * 65536 + m →
 joined a b c d m n x p q r = omega arith
 
 -- a word is its four bytes
-word-four : (w : ℕ) → w < 4294967296 → wordOf (w % 256) (w / 256 % 256) (w / 65536 % 256) (w / 16777216 % 256) ≡ w
+pub word-four : (w : ℕ) → w < 4294967296 → wordOf (w % 256) (w / 256 % 256) (w / 65536 % 256) (w / 16777216 % 256) ≡ w
 word-four w h =
     let e : w % 4294967296 ≡ w = omega arith in
     joined _ _ _ _ _ _ _ (mod-mul w {m = 256} {c = 256} (lit< tt) (lit< tt)) (mod-mul w {m = 256} {c = 65536} (lit< tt) (lit< tt))

@@ -9,6 +9,7 @@ use lib.Dec.{eqb}
 use lib.ListN.{length, getD}
 use Rattle.word.specs.Words.{wordOf, fourOf, bytesOf}
 use Rattle.word.specs.Enables.{byteOf, bitOf, ofBytes, merged}
+use Rattle.word.proofs.Crossing.{word-four}
 
 -- a byte is below 256
 pub byte-lt : (k w : ℕ) → byteOf k w < 256
@@ -66,3 +67,7 @@ pub merged-is : (old new e : ℕ)
 unfolding merged ofBytes byteOf bitOf
 merged-is old new e =
     simp (div-div-eq-div-mul) (omega arith)
+
+-- under all four enables the merge is the new word
+pub merge-whole : (old new : ℕ) → new < 4294967296 → merged old new 15 ≡ new
+merge-whole old new h = merged-is old new 15 ∙ word-four new h

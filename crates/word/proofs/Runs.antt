@@ -118,6 +118,12 @@ module _ (b : ℕ) where
   unfolding put
   below-put l at s h k = below-append (take at l) _ (below-take at l h) (below-append s _ k (below-drop (at + length s) l h))
 
+  pub below-set : (l : List ℕ) (i v : ℕ) → Below b l → v < b → Below b (set l i v)
+  unfolding Below
+  below-set [] i v h k = tt
+  below-set (x ∷ l) zero v h k = (k, h .1)
+  below-set (x ∷ l) (suc i) v h k = (h .0, below-set l i v (h .1) k)
+
   pub below-nth : (l : List ℕ) (i : ℕ) → Below b l → 0 < b → getD l i 0 < b
   unfolding Below
   below-nth [] i h z = z

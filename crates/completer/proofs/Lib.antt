@@ -1,0 +1,3 @@
+-- Laws of carrying out that belong to no one function; the crates above cite them.
+pub mod Moving
+pub mod LastWrite

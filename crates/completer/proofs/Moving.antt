@@ -1,0 +1,97 @@
+-- What moves do to memory: one behind another, its length, its words; and a write's moves as the code makes them, the first and
+-- the last word merged and what lies between copied. The proofs of `moves` and the promises cite these. Assumes nothing.
+use Prim.Native.Nat.{ℕ, zero, suc, _+_, _-_, _/_, _≤_, _<_}
+use mathlib.Core.Path.{_≡_, refl, sym, ap, _∙_}
+use mathlib.Core.Bool.{Bool, true, false, cond}
+use mathlib.Core.List.{List, [], _∷_, _++_}
+use native.Mathlib.Omega.{arith}
+use native.Mathlib.Nat.{add-zero}
+use native.Mathlib.Numerals.{add-one}
+use lib.ListN.{length, getD, set, take, drop, length-set, length-drop}
+use lib.Seq.{drop-cons, take-suc, getD-drop, length-take-le}
+use Rattle.word.specs.Words.{Words, put}
+use Rattle.word.specs.Enables.{merged}
+use Rattle.word.proofs.Runs.{put-none, put-one, put-put, below-set, below-nth, below-take, below-drop}
+use Rattle.word.proofs.Places.{merge-lt, merge-whole}
+use Rattle.message.specs.declared.header.Kind.{Kind}
+use Rattle.message.specs.declared.header.Kind.the-variants.{Nop, Write, Read, Response}
+use Rattle.message.specs.Request.{Command, Request}
+use Rattle.completer.specs.Moves.{fails, Move, Fetch, Store, fetches, storesBehind, stores, movesOf, moves, moved, afterMoves, memoryAfter}
+
+pub after-append : (m : List ℕ) (a b : List Move) → afterMoves m (a ++ b) ≡ afterMoves (afterMoves m a) b
+unfolding afterMoves
+after-append m [] b = refl
+after-append m (v ∷ a) b = after-append (moved m v) a b
+
+-- memory keeps its length
+pub length-after : (m : List ℕ) (vs : List Move) → length (afterMoves m vs) ≡ length m
+unfolding afterMoves
+length-after m [] = refl
+length-after m (Fetch i ∷ vs) = length-after m vs
+length-after m (Store i w e ∷ vs) = length-after (moved m (Store i w e)) vs ∙ simp length-set
+
+-- words stay words
+pub words-after : (m : List ℕ) (vs : List Move) → Words m → Words (afterMoves m vs)
+unfolding afterMoves
+words-after m [] h = h
+words-after m (Fetch i ∷ vs) h = words-after m vs h
+words-after m (Store i w e ∷ vs) h =
+    words-after (moved m (Store i w e)) vs (below-set 4294967296 m i (merged (getD m i 0) w e) h (merge-lt (getD m i 0) w e))
+
+-- a read changes nothing, nor does any command but a write
+fetches-quiet : (m : List ℕ) (at n : ℕ) → afterMoves m (fetches at n) ≡ m
+unfolding afterMoves fetches
+fetches-quiet m at zero = refl
+fetches-quiet m at (suc n) = fetches-quiet m (suc at) n
+
+pub command-quiet : (kind : Kind) (m : List ℕ) (c : Command) → (kind ≡ Write → ⊥) → afterMoves m (movesOf kind c) ≡ m
+unfolding afterMoves
+command-quiet Nop m c h = refl
+command-quiet Write m c h = absurd (h refl)
+command-quiet Read m c h = fetches-quiet m (c .address / 4) (c .count)
+command-quiet Response m c h = refl
+
+-- a word before others is written whole
+behind-more : (at final w : ℕ) (mid : List ℕ) (z : ℕ) → storesBehind at final (w ∷ (mid ++ (z ∷ []))) ≡ Store at w 15 ∷ storesBehind (suc at) final (mid ++ (z ∷ []))
+unfolding storesBehind
+behind-more at final w [] z = refl
+behind-more at final w (v ∷ mid) z = refl
+
+-- the words behind the first: copied, but for the last one
+behind-is : (m : List ℕ) (at final : ℕ) (mid : List ℕ) (z : ℕ) → Words mid → at + length mid < length m
+    → afterMoves m (storesBehind at final (mid ++ (z ∷ []))) ≡ moved (put m at mid) (Store (at + length mid) z final)
+unfolding afterMoves storesBehind
+behind-is m at final [] z h l = rw (put-none m at, add-zero at)
+behind-is m at final (w ∷ mid) z h l =
+    let e : moved m (Store at w 15) ≡ put m at (w ∷ []) = ap (set m at) (merge-whole (getD m at 0) w (below-nth 4294967296 (w ∷ mid) 0 h (omega arith))) ∙ put-one m at w (omega arith) in
+    let n : length (moved m (Store at w 15)) ≡ length m = simp length-set in
+    let p : put (put m at (w ∷ [])) (suc at) mid ≡ put m at (w ∷ mid) = rw add-one at (put-put m at (w ∷ []) mid (omega arith)) in
+    let q : suc at + length mid ≡ at + suc (length mid) = omega arith in
+    ap (afterMoves m) (behind-more at final w mid z)
+    ∙ behind-is (moved m (Store at w 15)) (suc at) final mid z (below-drop 4294967296 1 (w ∷ mid) h) (omega arith)
+    ∙ rw (e, p, q)
+
+-- a run of two words or more: its first, what lies between, its last
+run-cut : (ws : List ℕ) (from n : ℕ) → from + suc (suc n) ≤ length ws
+    → take (suc (suc n)) (drop from ws) ≡ getD ws from 0 ∷ (take n (drop (suc from) ws) ++ (getD ws (suc from + n) 0 ∷ []))
+run-cut ws from n h =
+    let l : n < length (drop (suc from) ws) = simp length-drop (omega arith) in
+    rw (drop-cons ws from 0 (omega arith), take-suc (drop (suc from) ws) n 0 l, getD-drop)
+
+-- a write's moves, as the code makes them
+pub write-is : (m : List ℕ) (at first final : ℕ) (ws : List ℕ) (from n : ℕ) → Words ws → from + suc (suc n) ≤ length ws → at + suc (suc n) ≤ length m
+    → moved (put (moved m (Store at (getD ws from 0) first)) (suc at) (take n (drop (suc from) ws))) (Store (suc at + n) (getD ws (suc from + n) 0) final)
+    ≡ afterMoves m (stores at first final (take (suc (suc n)) (drop from ws)))
+unfolding afterMoves stores
+write-is m at first final ws from n w h k =
+    let mid : List ℕ = take n (drop (suc from) ws) in
+    let l : length mid ≡ n = length-take-le n (drop (suc from) ws) (simp length-drop (omega arith)) in
+    let b = behind-is (moved m (Store at (getD ws from 0) first)) (suc at) final mid (getD ws (suc from + n) 0)
+      (below-take 4294967296 n (drop (suc from) ws) (below-drop 4294967296 (suc from) ws w)) (simp length-set (omega arith)) in
+    rw (run-cut ws from n h) (rw l at (sym b))
+
+-- a write of one word
+pub write-one : (m : List ℕ) (at first final : ℕ) (ws : List ℕ) (from : ℕ) → from < length ws
+    → moved m (Store at (getD ws from 0) first) ≡ afterMoves m (stores at first final (take 1 (drop from ws)))
+unfolding afterMoves stores storesBehind
+write-one m at first final ws from h = rw (drop-cons ws from 0 h)
