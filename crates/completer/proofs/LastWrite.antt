@@ -1,5 +1,5 @@
 -- "each byte of memory is that of the last OK write that enables it, else the old one": the promise `LastWrite`. Assumes nothing.
-use Prim.Native.Nat.{ℕ, zero, suc, _+_, _-_, _/_, _%_, _≤_, _<_}
+use Prim.Native.Nat.{ℕ, zero, suc, _+_, _-_, _/_, _≤_, _<_}
 use mathlib.Core.Path.{_≡_, refl, sym, ap, _∙_}
 use mathlib.Core.Bool.{Bool, true, false, cond, _&&_, _||_, false≢true}
 use mathlib.Core.List.{List, [], _∷_, _++_}
@@ -16,9 +16,9 @@ use Rattle.message.specs.declared.header.Kind.the-variants.{Write}
 use Rattle.message.specs.Header.{kindOf, firstOf, finalOf, dataWords}
 use Rattle.message.specs.Request.{Command, Request, FitsCommand, All, Fits}
 use Rattle.message.proofs.Answering.{all-first, all-rest}
-use Rattle.completer.specs.Moves.{outside, fails, Move, Store, storesBehind, stores, movesOf, moves, moved, afterMoves, memoryAfter}
+use Rattle.completer.specs.Moves.{fails, Move, Store, storesBehind, stores, movesOf, moves, moved, afterMoves, memoryAfter}
 use Rattle.completer.specs.Promises.{carried, enablesAt, enables, anyEnables, byteAt, LastWrite}
-use Rattle.completer.proofs.Moving.{after-append, length-after}
+use Rattle.completer.proofs.Moving.{after-append, length-after, within}
 
 -- the words behind a write's first: each word of memory outside stays, each inside is merged once
 behind-other : (m : List ℕ) (at final : ℕ) (ws : List ℕ) (i : ℕ) → ((j : ℕ) → j < length ws → i ≡ at + j → ⊥)
@@ -110,15 +110,6 @@ module _ (m : List ℕ) (c : Command) (i k : ℕ) (four : k < 4) (long : length 
 either-off : (a b : Bool) → a || b ≡ false → (a ≡ false) × (b ≡ false)
 either-off true b e = absurd (false≢true (sym e))
 either-off false b e = (refl, e)
-
--- a write that does not fail lies inside memory
-pub within : (size address count : ℕ) → outside size address count ≡ false → address / 4 + count ≤ size
-unfolding outside
-within size address count e = go (eqb (address % 4) 0) e
-  where
-    go : (b : Bool) → cond b (ltb size (address / 4 + count)) true ≡ false → address / 4 + count ≤ size
-    go true e = ltb-false size (address / 4 + count) e
-    go false e = absurd (false≢true (sym e))
 
 -- a command carried out before others
 module _ (byte0 : ℕ) (write : kindOf byte0 ≡ Write) (i k : ℕ) (four : k < 4) where

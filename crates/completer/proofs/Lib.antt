@@ -1,3 +1,4 @@
 -- Laws of carrying out that belong to no one function; the crates above cite them.
 pub mod Moving
 pub mod LastWrite
+pub mod Promised

@@ -1,12 +1,14 @@
 -- What moves do to memory: one behind another, its length, its words; and a write's moves as the code makes them, the first and
 -- the last word merged and what lies between copied. The proofs of `moves` and the promises cite these. Assumes nothing.
-use Prim.Native.Nat.{ℕ, zero, suc, _+_, _-_, _/_, _≤_, _<_}
+use Prim.Native.Nat.{ℕ, zero, suc, _+_, _/_, _%_, _≤_, _<_}
 use mathlib.Core.Path.{_≡_, refl, sym, ap, _∙_}
-use mathlib.Core.Bool.{Bool, true, false, cond}
+use mathlib.Core.Bool.{Bool, true, false, cond, false≢true}
 use mathlib.Core.List.{List, [], _∷_, _++_}
 use native.Mathlib.Omega.{arith}
 use native.Mathlib.Nat.{add-zero}
 use native.Mathlib.Numerals.{add-one}
+use borrow.Author.Tests.{ltb-false}
+use lib.Dec.{ltb, eqb}
 use lib.ListN.{length, getD, set, take, drop, length-set, length-drop}
 use lib.Seq.{drop-cons, take-suc, getD-drop, length-take-le}
 use Rattle.word.specs.Words.{Words, put}
@@ -15,8 +17,8 @@ use Rattle.word.proofs.Runs.{put-none, put-one, put-put, below-set, below-nth, 
 use Rattle.word.proofs.Places.{merge-lt, merge-whole}
 use Rattle.message.specs.declared.header.Kind.{Kind}
 use Rattle.message.specs.declared.header.Kind.the-variants.{Nop, Write, Read, Response}
-use Rattle.message.specs.Request.{Command, Request}
-use Rattle.completer.specs.Moves.{fails, Move, Fetch, Store, fetches, storesBehind, stores, movesOf, moves, moved, afterMoves, memoryAfter}
+use Rattle.message.specs.Request.{Command}
+use Rattle.completer.specs.Moves.{outside, Move, Fetch, Store, fetches, storesBehind, stores, movesOf, moved, afterMoves}
 
 pub after-append : (m : List ℕ) (a b : List Move) → afterMoves m (a ++ b) ≡ afterMoves (afterMoves m a) b
 unfolding afterMoves
@@ -37,6 +39,15 @@ words-after m [] h = h
 words-after m (Fetch i ∷ vs) h = words-after m vs h
 words-after m (Store i w e ∷ vs) h =
     words-after (moved m (Store i w e)) vs (below-set 4294967296 m i (merged (getD m i 0) w e) h (merge-lt (getD m i 0) w e))
+
+-- the range of a read or write that does not fail lies inside memory
+pub within : (size address count : ℕ) → outside size address count ≡ false → address / 4 + count ≤ size
+unfolding outside
+within size address count e = go (eqb (address % 4) 0) e
+  where
+    go : (b : Bool) → cond b (ltb size (address / 4 + count)) true ≡ false → address / 4 + count ≤ size
+    go true e = ltb-false size (address / 4 + count) e
+    go false e = absurd (false≢true (sym e))
 
 -- a read changes nothing, nor does any command but a write
 fetches-quiet : (m : List ℕ) (at n : ℕ) → afterMoves m (fetches at n) ≡ m
