@@ -2,3 +2,5 @@
 pub mod Moving
 pub mod LastWrite
 pub mod Promised
+pub mod Putting
+pub mod OneCommand

@@ -1,11 +1,11 @@
 -- What moves do to memory: one behind another, its length, its words; and a write's moves as the code makes them, the first and
 -- the last word merged and what lies between copied. The proofs of `moves` and the promises cite these. Assumes nothing.
-use Prim.Native.Nat.{ℕ, zero, suc, _+_, _/_, _%_, _≤_, _<_}
+use Prim.Native.Nat.{ℕ, zero, suc, _+_, _-_, _/_, _%_, _≤_, _<_}
 use mathlib.Core.Path.{_≡_, refl, sym, ap, _∙_}
 use mathlib.Core.Bool.{Bool, true, false, cond, false≢true}
 use mathlib.Core.List.{List, [], _∷_, _++_}
 use native.Mathlib.Omega.{arith}
-use native.Mathlib.Nat.{add-zero}
+use native.Mathlib.Nat.{add-zero, add-sub-cancel-left}
 use native.Mathlib.Numerals.{add-one}
 use borrow.Author.Tests.{ltb-false}
 use lib.Dec.{ltb, eqb}
@@ -89,8 +89,8 @@ run-cut ws from n h =
     let l : n < length (drop (suc from) ws) = simp length-drop (omega arith) in
     rw (drop-cons ws from 0 (omega arith), take-suc (drop (suc from) ws) n 0 l, getD-drop)
 
--- a write's moves, as the code makes them
-pub write-is : (m : List ℕ) (at first final : ℕ) (ws : List ℕ) (from n : ℕ) → Words ws → from + suc (suc n) ≤ length ws → at + suc (suc n) ≤ length m
+-- a write's moves, as the code makes them: the word w merged, n words copied, the word z merged
+write-is : (m : List ℕ) (at first final : ℕ) (ws : List ℕ) (from n : ℕ) → Words ws → from + suc (suc n) ≤ length ws → at + suc (suc n) ≤ length m
     → moved (put (moved m (Store at (getD ws from 0) first)) (suc at) (take n (drop (suc from) ws))) (Store (suc at + n) (getD ws (suc from + n) 0) final)
     ≡ afterMoves m (stores at first final (take (suc (suc n)) (drop from ws)))
 unfolding afterMoves stores
@@ -101,8 +101,25 @@ write-is m at first final ws from n w h k =
       (below-take 4294967296 n (drop (suc from) ws) (below-drop 4294967296 (suc from) ws w)) (simp length-set (omega arith)) in
     rw (run-cut ws from n h) (rw l at (sym b))
 
+pub write-made : (m ws : List ℕ) (at from count first final : ℕ) {m₁ m₂ m' : List ℕ} {f g w z : ℕ}
+    → m₁ ≡ moved m (Store at w f) → m₂ ≡ put m₁ (at + 1) (take (count - 2) (drop (from + 1) ws)) → m' ≡ moved m₂ (Store (at + 1 + (count - 2)) z g)
+    → f ≡ first → g ≡ final → w ≡ getD ws from 0 → z ≡ getD ws (from + 1 + (count - 2)) 0
+    → Words ws → 2 ≤ count → from + count ≤ length ws → at + count ≤ length m → m' ≡ afterMoves m (stores at first final (take count (drop from ws)))
+write-made m ws at from count first final e₁ e₂ e₃ f g w z h two l k =
+    let c : count ≡ suc (suc (count - 2)) = omega arith in
+    let i = write-is m at first final ws from (count - 2) h (omega arith) (omega arith) in
+    e₃ ∙ rw (e₂, e₁, f, g, w, z) (rw (← add-one at, ← add-one from, ← c) at i)
+
 -- a write of one word
-pub write-one : (m : List ℕ) (at first final : ℕ) (ws : List ℕ) (from : ℕ) → from < length ws
-    → moved m (Store at (getD ws from 0) first) ≡ afterMoves m (stores at first final (take 1 (drop from ws)))
+pub write-one : (m ws : List ℕ) (at from count first final : ℕ) {m' : List ℕ} {f w : ℕ} → m' ≡ moved m (Store at w f) → f ≡ first → w ≡ getD ws from 0
+    → count ≡ 1 → from < length ws → m' ≡ afterMoves m (stores at first final (take count (drop from ws)))
 unfolding afterMoves stores storesBehind
-write-one m at first final ws from h = rw (drop-cons ws from 0 h)
+write-one m ws at from count first final e f w c h = e ∙ rw (f, w, c, drop-cons ws from 0 h)
+
+-- a read of one word
+pub read-one : (m : List ℕ) (at count : ℕ) → count ≡ 1 → at < length m → getD m at 0 ∷ [] ≡ take count (drop at m)
+read-one m at count c h = rw (c, drop-cons m at 0 h)
+
+-- and of a run, which is lent as a part of memory
+pub read-part : (m : List ℕ) (at count : ℕ) → take (at + count - at) (drop at m) ≡ take count (drop at m)
+read-part m at count = rw (add-sub-cancel-left at count)

@@ -1,5 +1,5 @@
 -- What the contracts of the crate `completer` cite, and what is promised of carrying out.
 pub mod Moves
 pub mod Answers
--- pub mod Carrying
+pub mod Carrying
 pub mod Promises

@@ -1,0 +1,108 @@
+// Carrying out a message: each command by its kind, and the loop over the commands.
+ghost use mathlib.Core.Path.{_≡_};
+ghost use Prim.Native.Nat.{_<_};
+ghost use lib.ListN.{length};
+ghost use Rattle.word.specs.Words.{wordsOf};
+ghost use Rattle.message.specs.declared.header.Kind.the-variants.{Nop, Write, Read};
+ghost use Rattle.message.specs.Request.{Means, read};
+ghost use Rattle.message.specs.Answer.{answerByte};
+ghost use Rattle.message.specs.Limits.{limit};
+ghost use Rattle.completer.specs.Carrying.{asked, Room, Here, CarriesAt, CarriesNop, FailsThere, Carries};
+use crate::answers;
+use crate::moves;
+use message::header;
+use message::header::Kind;
+use message::request;
+
+// What is the same for every command of a message: its byte 0, the kind it names, the answer's byte 0, word 1 of the advertisement,
+// and whether the answer is kept.
+pub struct Task {
+    pub byte0: u32,
+    pub kind: Kind,
+    pub answer: u32,
+    pub mark: u32,
+    pub keep: bool,
+}
+
+// What one command came to: whether the message ends there, the words of the answer so far, and where the next header stands.
+pub struct Carried {
+    pub stop: bool,
+    pub words: usize,
+    pub next: usize,
+}
+
+// The status of a command that was done, and of one that fails.
+const OK: u32 = 0;
+const ERROR: u32 = 2;
+
+// The answer to a command that fails: it is the last.
+fn fail(stored: &mut [u32], output: &mut [u8], task: Task, n: usize) -> Carried
+    requires { ⌜ (task .answer < 256) × (n < limit) × Room (now stored) (now output) ⌝ }
+    ensures { λ r. ⌜ FailsThere task n (now (stored .entry)) (now (output .entry)) r (now (stored .exit)) (now (output .exit)) ⌝ }
+{
+    answers::put_both(stored, output, task.keep, n, header::header_from(task.answer, ERROR, 0, true));
+    Carried { stop: true, words: n + 1, next: 0 }
+}
+
+// A NOP: it is answered from the advertisement.
+fn carry_nop(stored: &mut [u32], output: &mut [u8], task: Task, datagram: &[u8], at: usize, n: usize) -> Carried
+    requires { ⌜ Here task (wordsOf (now datagram)) at n × Room (now stored) (now output) × (task .kind ≡ Nop) ⌝ }
+    ensures { λ r. ⌜ CarriesNop task (wordsOf (now (datagram .entry))) at n (now (stored .entry)) (now (output .entry)) r (now (stored .exit)) (now (output .exit)) ⌝ }
+{
+    let h = word::word_at(datagram, at);
+    let count = header::count(h);
+    let last = header::last(h);
+    answers::put_both(stored, output, task.keep, n, header::header_from(task.answer, OK, count, last));
+    answers::put_advert(stored, output, task.keep, n + 1, task.mark, count);
+    Carried { stop: last, words: n + 1 + count, next: at + 1 + count }
+}
+
+// A write: its answer first, then its words.
+fn carry_write(memory: &mut [u32], stored: &mut [u32], output: &mut [u8], task: Task, datagram: &[u8], at: usize, n: usize) -> Carried
+    requires { ⌜ Here task (wordsOf (now datagram)) at n × Room (now stored) (now output) × (task .kind ≡ Write) ⌝ }
+    ensures { λ r. ⌜ CarriesAt task (wordsOf (now (datagram .entry))) at n (now (memory .entry)) (now (stored .entry)) (now (output .entry)) r
+        (now (memory .exit)) (now (stored .exit)) (now (output .exit)) ⌝ }
+{
+    let h = word::word_at(datagram, at);
+    let count = header::count(h);
+    let address = request::address_at(task.byte0, datagram, at);
+    if moves::outside(memory.len(), address, count) {
+        return fail(stored, output, task, n);
+    }
+    let base = (address / 4) as usize;
+    let from = at + 1 + header::address_words(task.byte0);
+    let byte1 = header::byte1(h);
+    let last = header::last(h);
+    answers::put_both(stored, output, task.keep, n, header::header_from(task.answer, OK, 0, last));
+    if count == 1 {
+        moves::store(memory, base, word::word_at(datagram, from), header::first(byte1));
+        return Carried { stop: last, words: n + 1, next: from + 1 };
+    }
+    moves::store_words(memory, base, datagram, from, count, byte1);
+    Carried { stop: last, words: n + 1, next: from + count }
+}
+
+// A read: its answer's header, then the words of memory.
+fn carry_read(memory: &[u32], stored: &mut [u32], output: &mut [u8], task: Task, datagram: &[u8], at: usize, n: usize) -> Carried
+    requires { ⌜ Here task (wordsOf (now datagram)) at n × Room (now stored) (now output) × (task .kind ≡ Read) ⌝ }
+    ensures { λ r. ⌜ CarriesAt task (wordsOf (now (datagram .entry))) at n (now (memory .entry)) (now (stored .entry)) (now (output .entry)) r
+        (now (memory .entry)) (now (stored .exit)) (now (output .exit)) ⌝ }
+{
+    let h = word::word_at(datagram, at);
+    let count = header::count(h);
+    let address = request::address_at(task.byte0, datagram, at);
+    if moves::outside(memory.len(), address, count) {
+        return fail(stored, output, task, n);
+    }
+    let base = (address / 4) as usize;
+    let next = at + 1 + header::address_words(task.byte0);
+    let last = header::last(h);
+    answers::put_both(stored, output, task.keep, n, header::header_from(task.answer, OK, count, last));
+    if count == 1 {
+        answers::put_both(stored, output, task.keep, n + 1, memory[base]);
+        return Carried { stop: last, words: n + 2, next };
+    }
+    let end = base + count;
+    answers::put_run(stored, output, task.keep, n + 1, &memory[base..end]);
+    Carried { stop: last, words: n + 1 + count, next }
+}
