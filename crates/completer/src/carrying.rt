@@ -10,6 +10,7 @@ ghost use Rattle.message.specs.Limits.{limit};
 ghost use Rattle.completer.specs.Carrying.{asked, Room, Here, CarriesAt, CarriesNop, FailsThere, Carries};
 use crate::answers;
 use crate::moves;
+use message::answer;
 use message::header;
 use message::header::Kind;
 use message::request;
@@ -105,4 +106,46 @@ fn carry_read(memory: &[u32], stored: &mut [u32], output: &mut [u8], task: Task,
     let end = base + count;
     answers::put_run(stored, output, task.keep, n + 1, &memory[base..end]);
     Carried { stop: last, words: n + 1 + count, next }
+}
+
+// One command, by its kind.
+fn carry_one(memory: &mut [u32], stored: &mut [u32], output: &mut [u8], task: Task, datagram: &[u8], at: usize, n: usize) -> Carried
+    requires { ⌜ Here task (wordsOf (now datagram)) at n × Room (now stored) (now output) ⌝ }
+    ensures { λ r. ⌜ CarriesAt task (wordsOf (now (datagram .entry))) at n (now (memory .entry)) (now (stored .entry)) (now (output .entry)) r
+        (now (memory .exit)) (now (stored .exit)) (now (output .exit)) ⌝ }
+{
+    let kind = task.kind;
+    match kind {
+        Kind::Nop => carry_nop(stored, output, task, datagram, at, n),
+        Kind::Write => carry_write(memory, stored, output, task, datagram, at, n),
+        Kind::Read => carry_read(memory, stored, output, task, datagram, at, n),
+        // No request is a response: its count is never allowed.
+        Kind::Response => Carried { stop: true, words: n, next: at },
+    }
+}
+
+// An accepted message, whose byte 0 is this: each command in order, up to the last or the first that fails. `mark` is word 1 of the
+// advertisement. The answer's words are counted, and stand at the front of the output and, if `keep`, of the stored words.
+pub fn carry(memory: &mut [u32], stored: &mut [u32], output: &mut [u8], datagram: &[u8], byte0: u32, mark: u32, keep: bool) -> usize
+    requires { ⌜ (read (now datagram) ≡ Means (asked (now datagram))) × (byte0 ≡ asked (now datagram) .byte0) × Room (now stored) (now output) ⌝ }
+    ensures { λ r. ⌜ Carries (asked (now (datagram .entry))) mark keep (now (memory .entry)) (now (stored .entry)) (now (output .entry)) r
+        (now (memory .exit)) (now (stored .exit)) (now (output .exit)) ⌝ }
+{
+    let task = Task {
+        byte0,
+        kind: header::kind_of(byte0),
+        answer: answer::answer_byte(byte0),
+        mark,
+        keep,
+    };
+    let mut at: usize = 0;
+    let mut n: usize = 0;
+    loop {
+        let done = carry_one(memory, stored, output, task, datagram, at, n);
+        if done.stop {
+            return done.words;
+        }
+        at = done.next;
+        n = done.words;
+    }
 }
