@@ -39,12 +39,12 @@ behind-at m at final (w ∷ []) (suc j) l h = absurd (omega arith)
 behind-at m at final (w ∷ v ∷ ws) zero l h =
     let e : eqb 1 (suc (suc (length ws))) ≡ false = ne-eqb 1 (suc (suc (length ws))) (λ q. omega arith) in
     rw (add-zero at, e) (behind-other (moved m (Store at w 15)) (suc at) final (v ∷ ws) at (λ j l q. omega arith)
-      ∙ getD-set-same m at (merged (getD m at 0) w 15) 0 (omega arith))
+    ∙ getD-set-same m at (merged (getD m at 0) w 15) 0 (omega arith))
 behind-at m at final (w ∷ v ∷ ws) (suc j) l h =
     let p : at + suc j ≡ suc at + j = omega arith in
     let e : eqb (suc (suc j)) (suc (length (v ∷ ws))) ≡ eqb (suc j) (length (v ∷ ws)) = eqb·suc-suc (suc j) (length (v ∷ ws)) in
     rw (p, e) (behind-at (moved m (Store at w 15)) (suc at) final (v ∷ ws) j (omega arith) (simp length-set (omega arith))
-      ∙ rw (getD-set-other m at (suc at + j) (merged (getD m at 0) w 15) 0 (λ q. omega arith)))
+    ∙ rw (getD-set-other m at (suc at + j) (merged (getD m at 0) w 15) 0 (λ q. omega arith)))
 
 -- the same of a whole write
 stores-other : (m : List ℕ) (at first final : ℕ) (ws : List ℕ) (i : ℕ) → ((j : ℕ) → j < length ws → i ≡ at + j → ⊥)
@@ -67,7 +67,7 @@ stores-at m at first final (w ∷ ws) (suc j) l h =
     let e : eqb (suc (suc j)) (suc (length ws)) ≡ eqb (suc j) (length ws) = eqb·suc-suc (suc j) (length ws) in
     let z : eqb (suc j) 0 ≡ false = ne-eqb (suc j) 0 (λ q. omega arith) in
     rw (p, e, z) (behind-at (moved m (Store at w first)) (suc at) final ws j (omega arith) (simp length-set (omega arith))
-      ∙ rw (getD-set-other m at (suc at + j) (merged (getD m at 0) w first) 0 (λ q. omega arith)))
+    ∙ rw (getD-set-other m at (suc at + j) (merged (getD m at 0) w first) 0 (λ q. omega arith)))
 
 all-three : (a b c : Bool) → a && b && c ≡ true → (a ≡ true) × (b ≡ true) × (c ≡ true)
 all-three true true true e = (refl, refl, refl)
@@ -101,6 +101,7 @@ module _ (m : List ℕ) (c : Command) (i k : ℕ) (four : k < 4) (long : length 
     where
       away : ((j : ℕ) → j < length (c .payload) → i ≡ base + j → ⊥) → byteAt (afterMoves m (movesOf Write c)) i k ≡ byteAt m i k
       away h = ap (byteOf k) (stores-other m base (firstOf (c .byte1)) (finalOf (c .byte1)) (c .payload) i h)
+
       go : (a b : Bool) → leb base i ≡ a → ltb i (base + c .count) ≡ b → a && b && bitOf k (enablesAt c (i - base)) ≡ false
           → byteAt (afterMoves m (movesOf Write c)) i k ≡ byteAt m i k
       go true true p q e = covered (leb-true base i p) (ltb-true i (base + c .count) q) ∙ rw e
@@ -151,8 +152,10 @@ module _ (byte0 : ℕ) (write : kindOf byte0 ≡ Write) (i k : ℕ) (four : k < 
     where
       m' : List ℕ
       m' = afterMoves m (movesOf Write d)
+
       kept : length m' ≡ length m
       kept = length-after m (movesOf Write d)
+
       go : (b : Bool) (before : List Command) → fails Write (length m) d ≡ b → cond b [] (d ∷ carried Write (length m) cs) ≡ before ++ (c ∷ after)
           → ((m' : List ℕ) (before' : List Command) → carried Write (length m') cs ≡ before' ++ (c ∷ after) → Given c (byteAt (afterMoves m' (moves Write (length m') cs)) i k))
           → Given c (byteAt (afterMoves m (cond b [] (movesOf Write d ++ moves Write (length m) cs))) i k)

@@ -4,3 +4,4 @@ pub mod LastWrite
 pub mod Promised
 pub mod Putting
 pub mod OneCommand
+pub mod Underway

@@ -98,7 +98,7 @@ write-is m at first final ws from n w h k =
     let mid : List ℕ = take n (drop (suc from) ws) in
     let l : length mid ≡ n = length-take-le n (drop (suc from) ws) (simp length-drop (omega arith)) in
     let b = behind-is (moved m (Store at (getD ws from 0) first)) (suc at) final mid (getD ws (suc from + n) 0)
-      (below-take 4294967296 n (drop (suc from) ws) (below-drop 4294967296 (suc from) ws w)) (simp length-set (omega arith)) in
+    (below-take 4294967296 n (drop (suc from) ws) (below-drop 4294967296 (suc from) ws w)) (simp length-set (omega arith)) in
     rw (run-cut ws from n h) (rw l at (sym b))
 
 pub write-made : (m ws : List ℕ) (at from count first final : ℕ) {m₁ m₂ m' : List ℕ} {f g w z : ℕ}

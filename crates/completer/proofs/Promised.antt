@@ -18,8 +18,9 @@ use Rattle.message.specs.Limits.{limit, limitBytes}
 use Rattle.message.specs.Header.{kindOf, replyWords}
 use Rattle.message.specs.Walk.{countOk}
 use Rattle.message.specs.Request.{Command, Request, FitsCommand, All, Fits, none}
-use Rattle.message.specs.Answer.{Answered, answerByte, FitsAnswered, FitsAnswers}
-use Rattle.message.proofs.Answering.{all-first, all-rest, fits-stop, fits-on, answer-short}
+use Rattle.message.specs.Answer.{Answered, FitsAnswered, FitsAnswers}
+use Rattle.message.proofs.Answering.{all-first, all-rest, fits-stop, fits-on}
+use Rattle.message.proofs.Judged.{answers-long}
 use Rattle.completer.specs.Moves.{outside, fails, movesOf, moves, afterMoves, memoryAfter}
 use Rattle.completer.specs.Answers.{advertisement, okWords, done, failed, answerOf, answers, answerTo, wordsTo}
 use Rattle.completer.specs.Promises.{carried, Quiet, SameLength, StaysWords, asking, Stops, AnsweredThen, AnswersThen, AnswerFits, NeverTimeout}
@@ -66,11 +67,13 @@ module _ (kind : Kind) where
     where
       m' : List ℕ
       m' = afterMoves m (movesOf kind b)
+
       kept : length m' ≡ length m
       kept = length-after m (movesOf kind b)
+
       go : (t : Bool) → cond t [] (b ∷ carried kind (length m) before) ≡ b ∷ before
           → ((m' : List ℕ) → carried kind (length m') before ≡ before
-            → getD (answers kind mark m' (before ++ (c ∷ after))) (length before) failed ≡ answerOf kind mark (afterMoves m' (moves kind (length m') before)) c)
+          → getD (answers kind mark m' (before ++ (c ∷ after))) (length before) failed ≡ answerOf kind mark (afterMoves m' (moves kind (length m') before)) c)
           → getD (cond t [] (answers kind mark m' (before ++ (c ∷ after)))) (length before) failed
           ≡ answerOf kind mark (afterMoves m (cond t [] (movesOf kind b ++ moves kind (length m) before))) c
       go true e ih = let z : _≡_ {A = ℕ} 0 1 = cc in absurd (omega arith)
@@ -86,6 +89,7 @@ module _ (kind : Kind) where
     where
       rest : List Answered
       rest = answers kind mark (afterMoves m (movesOf kind c)) cs
+
       go : (t : Bool) (i : ℕ) → getD (cond t failed (done kind mark m c) ∷ cond t [] rest) i failed .status ≡ Timeout → ((j : ℕ) → getD rest j failed .status ≡ Timeout → ⊥) → ⊥
       go true zero e ih = let z : _≡_ {A = ℕ} 0 1 = cc in omega arith
       go true (suc i) e ih = let z : _≡_ {A = ℕ} 0 1 = cc in omega arith
@@ -190,4 +194,4 @@ pub answer-fits : (r : Request) (mark : ℕ) (memory : List ℕ) → Fits r → 
 unfolding answerTo wordsTo
 answer-fits r mark memory f h small =
     let g = all-fit (r .byte0) mark small (kindOf (r .byte0)) memory (r .commands) refl h (f .asked .some) (f .asked .all) in
-    record { fits = g; short = omega (arith, answer-short (answerByte (r .byte0)) (r .byte0) (r .commands) _ g, f .answer) }
+    record { fits = g; short = omega (arith, answers-long (r .byte0) (r .commands) _ g, f .answer) }

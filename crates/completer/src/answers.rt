@@ -48,7 +48,14 @@ pub fn put_run(stored: &mut [u32], output: &mut [u8], keep: bool, n: usize, word
 }
 
 // The first `count` words of the advertisement: the limit in bytes, then `mark`.
-pub fn put_advert(stored: &mut [u32], output: &mut [u8], keep: bool, n: usize, mark: u32, count: usize)
+pub fn put_advert(
+    stored: &mut [u32],
+    output: &mut [u8],
+    keep: bool,
+    n: usize,
+    mark: u32,
+    count: usize,
+)
     requires { ⌜ (count ≤ 2) × (n + count ≤ length (now stored)) × (4 * (n + count) ≤ length (now output)) ⌝ }
     ensures { λ _. ⌜ Puts keep n (take count (advertisement mark)) (now (stored .entry)) (now (output .entry)) (now (stored .exit)) (now (output .exit)) ⌝ }
 {

@@ -34,6 +34,7 @@ pub struct Carried {
 
 // The status of a command that was done, and of one that fails.
 const OK: u32 = 0;
+
 const ERROR: u32 = 2;
 
 // The answer to a command that fails: it is the last.
@@ -41,25 +42,60 @@ fn fail(stored: &mut [u32], output: &mut [u8], task: Task, n: usize) -> Carried
     requires { ⌜ (task .answer < 256) × (n < limit) × Room (now stored) (now output) ⌝ }
     ensures { λ r. ⌜ FailsThere task n (now (stored .entry)) (now (output .entry)) r (now (stored .exit)) (now (output .exit)) ⌝ }
 {
-    answers::put_both(stored, output, task.keep, n, header::header_from(task.answer, ERROR, 0, true));
-    Carried { stop: true, words: n + 1, next: 0 }
+    answers::put_both(
+        stored,
+        output,
+        task.keep,
+        n,
+        header::header_from(task.answer, ERROR, 0, true),
+    );
+    Carried {
+        stop: true,
+        words: n + 1,
+        next: 0,
+    }
 }
 
 // A NOP: it is answered from the advertisement.
-fn carry_nop(stored: &mut [u32], output: &mut [u8], task: Task, datagram: &[u8], at: usize, n: usize) -> Carried
+fn carry_nop(
+    stored: &mut [u32],
+    output: &mut [u8],
+    task: Task,
+    datagram: &[u8],
+    at: usize,
+    n: usize,
+) -> Carried
     requires { ⌜ Here task (wordsOf (now datagram)) at n × Room (now stored) (now output) × (task .kind ≡ Nop) ⌝ }
     ensures { λ r. ⌜ CarriesNop task (wordsOf (now (datagram .entry))) at n (now (stored .entry)) (now (output .entry)) r (now (stored .exit)) (now (output .exit)) ⌝ }
 {
     let h = word::word_at(datagram, at);
     let count = header::count(h);
     let last = header::last(h);
-    answers::put_both(stored, output, task.keep, n, header::header_from(task.answer, OK, count, last));
+    answers::put_both(
+        stored,
+        output,
+        task.keep,
+        n,
+        header::header_from(task.answer, OK, count, last),
+    );
     answers::put_advert(stored, output, task.keep, n + 1, task.mark, count);
-    Carried { stop: last, words: n + 1 + count, next: at + 1 + count }
+    Carried {
+        stop: last,
+        words: n + 1 + count,
+        next: at + 1 + count,
+    }
 }
 
 // A write: its answer first, then its words.
-fn carry_write(memory: &mut [u32], stored: &mut [u32], output: &mut [u8], task: Task, datagram: &[u8], at: usize, n: usize) -> Carried
+fn carry_write(
+    memory: &mut [u32],
+    stored: &mut [u32],
+    output: &mut [u8],
+    task: Task,
+    datagram: &[u8],
+    at: usize,
+    n: usize,
+) -> Carried
     requires { ⌜ Here task (wordsOf (now datagram)) at n × Room (now stored) (now output) × (task .kind ≡ Write) ⌝ }
     ensures { λ r. ⌜ CarriesAt task (wordsOf (now (datagram .entry))) at n (now (memory .entry)) (now (stored .entry)) (now (output .entry)) r
         (now (memory .exit)) (now (stored .exit)) (now (output .exit)) ⌝ }
@@ -74,17 +110,44 @@ fn carry_write(memory: &mut [u32], stored: &mut [u32], output: &mut [u8], task: 
     let from = at + 1 + header::address_words(task.byte0);
     let byte1 = header::byte1(h);
     let last = header::last(h);
-    answers::put_both(stored, output, task.keep, n, header::header_from(task.answer, OK, 0, last));
+    answers::put_both(
+        stored,
+        output,
+        task.keep,
+        n,
+        header::header_from(task.answer, OK, 0, last),
+    );
     if count == 1 {
-        moves::store(memory, base, word::word_at(datagram, from), header::first(byte1));
-        return Carried { stop: last, words: n + 1, next: from + 1 };
+        moves::store(
+            memory,
+            base,
+            word::word_at(datagram, from),
+            header::first(byte1),
+        );
+        return Carried {
+            stop: last,
+            words: n + 1,
+            next: from + 1,
+        };
     }
     moves::store_words(memory, base, datagram, from, count, byte1);
-    Carried { stop: last, words: n + 1, next: from + count }
+    Carried {
+        stop: last,
+        words: n + 1,
+        next: from + count,
+    }
 }
 
 // A read: its answer's header, then the words of memory.
-fn carry_read(memory: &[u32], stored: &mut [u32], output: &mut [u8], task: Task, datagram: &[u8], at: usize, n: usize) -> Carried
+fn carry_read(
+    memory: &[u32],
+    stored: &mut [u32],
+    output: &mut [u8],
+    task: Task,
+    datagram: &[u8],
+    at: usize,
+    n: usize,
+) -> Carried
     requires { ⌜ Here task (wordsOf (now datagram)) at n × Room (now stored) (now output) × (task .kind ≡ Read) ⌝ }
     ensures { λ r. ⌜ CarriesAt task (wordsOf (now (datagram .entry))) at n (now (memory .entry)) (now (stored .entry)) (now (output .entry)) r
         (now (memory .entry)) (now (stored .exit)) (now (output .exit)) ⌝ }
@@ -98,18 +161,40 @@ fn carry_read(memory: &[u32], stored: &mut [u32], output: &mut [u8], task: Task,
     let base = (address / 4) as usize;
     let next = at + 1 + header::address_words(task.byte0);
     let last = header::last(h);
-    answers::put_both(stored, output, task.keep, n, header::header_from(task.answer, OK, count, last));
+    answers::put_both(
+        stored,
+        output,
+        task.keep,
+        n,
+        header::header_from(task.answer, OK, count, last),
+    );
     if count == 1 {
         answers::put_both(stored, output, task.keep, n + 1, memory[base]);
-        return Carried { stop: last, words: n + 2, next };
+        return Carried {
+            stop: last,
+            words: n + 2,
+            next,
+        };
     }
     let end = base + count;
     answers::put_run(stored, output, task.keep, n + 1, &memory[base..end]);
-    Carried { stop: last, words: n + 1 + count, next }
+    Carried {
+        stop: last,
+        words: n + 1 + count,
+        next,
+    }
 }
 
 // One command, by its kind.
-fn carry_one(memory: &mut [u32], stored: &mut [u32], output: &mut [u8], task: Task, datagram: &[u8], at: usize, n: usize) -> Carried
+fn carry_one(
+    memory: &mut [u32],
+    stored: &mut [u32],
+    output: &mut [u8],
+    task: Task,
+    datagram: &[u8],
+    at: usize,
+    n: usize,
+) -> Carried
     requires { ⌜ Here task (wordsOf (now datagram)) at n × Room (now stored) (now output) ⌝ }
     ensures { λ r. ⌜ CarriesAt task (wordsOf (now (datagram .entry))) at n (now (memory .entry)) (now (stored .entry)) (now (output .entry)) r
         (now (memory .exit)) (now (stored .exit)) (now (output .exit)) ⌝ }
@@ -120,13 +205,25 @@ fn carry_one(memory: &mut [u32], stored: &mut [u32], output: &mut [u8], task: Ta
         Kind::Write => carry_write(memory, stored, output, task, datagram, at, n),
         Kind::Read => carry_read(memory, stored, output, task, datagram, at, n),
         // No request is a response: its count is never allowed.
-        Kind::Response => Carried { stop: true, words: n, next: at },
+        Kind::Response => Carried {
+            stop: true,
+            words: n,
+            next: at,
+        },
     }
 }
 
 // An accepted message, whose byte 0 is this: each command in order, up to the last or the first that fails. `mark` is word 1 of the
 // advertisement. The answer's words are counted, and stand at the front of the output and, if `keep`, of the stored words.
-pub fn carry(memory: &mut [u32], stored: &mut [u32], output: &mut [u8], datagram: &[u8], byte0: u32, mark: u32, keep: bool) -> usize
+pub fn carry(
+    memory: &mut [u32],
+    stored: &mut [u32],
+    output: &mut [u8],
+    datagram: &[u8],
+    byte0: u32,
+    mark: u32,
+    keep: bool,
+) -> usize
     requires { ⌜ (read (now datagram) ≡ Means (asked (now datagram))) × (byte0 ≡ asked (now datagram) .byte0) × Room (now stored) (now output) ⌝ }
     ensures { λ r. ⌜ Carries (asked (now (datagram .entry))) mark keep (now (memory .entry)) (now (stored .entry)) (now (output .entry)) r
         (now (memory .exit)) (now (stored .exit)) (now (output .exit)) ⌝ }

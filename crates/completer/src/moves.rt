@@ -28,7 +28,14 @@ pub fn store(memory: &mut [u32], at: usize, w: u32, enables: u32)
 }
 
 // A write of two words or more, from word `at` on: a first and a last word are merged, what lies between is copied.
-pub fn store_words(memory: &mut [u32], at: usize, datagram: &[u8], from: usize, count: usize, byte1: u32)
+pub fn store_words(
+    memory: &mut [u32],
+    at: usize,
+    datagram: &[u8],
+    from: usize,
+    count: usize,
+    byte1: u32,
+)
     requires { ⌜ (2 ≤ count) × (count ≤ longest) × (at + count ≤ length (now memory)) × (4 * (from + count) ≤ length (now datagram)) ⌝ }
     ensures { λ _. ⌜ now (memory .exit)
         ≡ afterMoves (now (memory .entry)) (stores at (firstOf byte1) (finalOf byte1) (take count (drop from (wordsOf (now (datagram .entry)))))) ⌝ }
@@ -38,5 +45,10 @@ pub fn store_words(memory: &mut [u32], at: usize, datagram: &[u8], from: usize, 
     store(memory, at, word::word_at(datagram, from), first);
     word::run::get_words(memory, at + 1, datagram, from + 1, between);
     let last = header::final_of(byte1);
-    store(memory, at + 1 + between, word::word_at(datagram, from + 1 + between), last);
+    store(
+        memory,
+        at + 1 + between,
+        word::word_at(datagram, from + 1 + between),
+        last,
+    );
 }

@@ -8,7 +8,7 @@ use Rattle.completer.proofs.answers.put_advert.Statement.{statement}
 use Rattle.completer.proofs.answers.put_advert.Tie as tie
 
 returns : tie.Need-returns
-returns c = 
+returns c =
     let e : c .before .before .before .args .count ≡ 0 = omega arith in
     rw e (puts-none _ _ _ _)
 
@@ -25,7 +25,7 @@ same-length-2 : tie.Need-same-length-2
 same-length-2 c = search needs
 
 returns-2 : tie.Need-returns-2
-returns-2 c = 
+returns-2 c =
     let e : c .before .before .before .before .before .before .before .before .before .before .args .count ≡ 1 = omega arith in
     rw e (c .before .before .before .before .put-both .ensures)
 
@@ -48,7 +48,7 @@ same-length-4 : tie.Need-same-length-4
 same-length-4 c = search needs
 
 returns-3 : tie.Need-returns-3
-returns-3 c = 
+returns-3 c =
     let e : c .before .before .before .before .before .before .before .before .before .before .before .before .before .before .before .before .before .args .count ≡ 2 = omega arith in
     rw e (puts-more (c .before .before .before .before .before .before .before .before .before .before .before .put-both2 .ensures) (c .before .before .before .before .put-both3 .ensures) refl (omega arith) (omega arith))
 

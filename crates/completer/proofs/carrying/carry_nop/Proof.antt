@@ -69,13 +69,13 @@ same-length-2 : tie.Need-same-length-2
 same-length-2 c = search needs
 
 returns : tie.Need-returns
-returns c = 
+returns c =
     let q = c .before .before .before .before in
     let p = q .before .before .before .before .before .before .before in
     let l = p .before .before .before .before in
     let k = l .before in
     λ m. did-nop (dg k) m (s k .args .stored .now) (s k .args .output .now) (s k .pre .0) (s k .pre .2) (s k .pre .1) (count-is k)
-      (l .last .ensures ∙ ap lastOf (k .before .word-at .ensures)) (p .before .header-from .ensures) (p .put-both .ensures) (q .put-advert .ensures)
+    (l .last .ensures ∙ ap lastOf (k .before .word-at .ensures)) (p .before .header-from .ensures) (p .put-both .ensures) (q .put-advert .ensures)
 
 pub carry-nop-spec : {M : Type 1} → statement M
 carry-nop-spec =

@@ -53,13 +53,13 @@ same-length-2 : tie.Need-same-length-2
 same-length-2 c = search needs
 
 returns : tie.Need-returns
-returns c = 
+returns c =
     let x = c .before .before .before .before in
     let i = x .before .before .before in
     let f = i .before in
     let k = f .before .before in
     failed-there (dg k) (s k .args .memory .now) (s k .args .stored .now) (s k .args .output .now) (s k .pre .0) Read (s k .pre .2) refl (count-is k) (f .before .address-at .ensures)
-      (f .outside .ensures) (i .if1 .taken) (x .fail .ensures)
+    (f .outside .ensures) (i .if1 .taken) (x .fail .ensures)
 
 add-next : tie.Need-add-next
 add-next c = let g = known (c .before .before .before) in omega arith
@@ -112,8 +112,8 @@ returns-2 c =
     let one : k .count .result ≡ 1 = omega (arith, z .before .before .before .before .if2 .taken) in
     let r = within _ _ _ (sym (f .outside .ensures) ∙ i .if1 .left) in
     did-read (dg k) (s k .args .memory .now) (s k .args .stored .now) (s k .args .output .now) (s k .pre .0) (s k .pre .2) (s k .pre .1) (count-is k)
-      (f .before .address-at .ensures) (f .outside .ensures) (i .if1 .left) (z .before .before .before .before .before .before .before .before .before .before .before .before .before .last .ensures ∙ ap lastOf w) (ap (λ (x : ℕ). s k .args .at + 1 + x) a)
-      (omega (arith, one)) (p .before .header-from .ensures) (p .put-both .ensures) (read-one (s k .args .memory .now) _ (k .count .result) one (omega (arith, r, one))) (z .put-both2 .ensures)
+    (f .before .address-at .ensures) (f .outside .ensures) (i .if1 .left) (z .before .before .before .before .before .before .before .before .before .before .before .before .before .last .ensures ∙ ap lastOf w) (ap (λ (x : ℕ). s k .args .at + 1 + x) a)
+    (omega (arith, one)) (p .before .header-from .ensures) (p .put-both .ensures) (read-one (s k .args .memory .now) _ (k .count .result) one (omega (arith, r, one))) (z .put-both2 .ensures)
 
 add-end : tie.Need-add-end
 add-end c = search needs
@@ -158,8 +158,8 @@ returns-3 c =
     let p = z .before .before .before .before .before .before .before .before .before in
     let a = z .before .before .before .before .before .before .before .before .before .before .before .before .before .before .address-words .ensures .0 in
     did-read (dg k) (s k .args .memory .now) (s k .args .stored .now) (s k .args .output .now) (s k .pre .0) (s k .pre .2) (s k .pre .1) (count-is k)
-      (f .before .address-at .ensures) (f .outside .ensures) (i .if1 .left) (z .before .before .before .before .before .before .before .before .before .before .before .before .before .last .ensures ∙ ap lastOf w) (ap (λ (x : ℕ). s k .args .at + 1 + x) a)
-      refl (p .before .header-from .ensures) (p .put-both .ensures) (read-part (s k .args .memory .now) (f .before .address-at .result / 4) (k .count .result)) (z .put-run .ensures)
+    (f .before .address-at .ensures) (f .outside .ensures) (i .if1 .left) (z .before .before .before .before .before .before .before .before .before .before .before .before .before .last .ensures ∙ ap lastOf w) (ap (λ (x : ℕ). s k .args .at + 1 + x) a)
+    refl (p .before .header-from .ensures) (p .put-both .ensures) (read-part (s k .args .memory .now) (f .before .address-at .result / 4) (k .count .result)) (z .put-run .ensures)
 
 pub carry-read-spec : {M : Type 1} → statement M
 carry-read-spec =

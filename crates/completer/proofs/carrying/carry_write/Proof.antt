@@ -53,13 +53,13 @@ same-length-2 : tie.Need-same-length-2
 same-length-2 c = search needs
 
 returns : tie.Need-returns
-returns c = 
+returns c =
     let x = c .before .before .before .before in
     let i = x .before .before .before in
     let f = i .before in
     let k = f .before .before in
     failed-there (dg k) (s k .args .memory .now) (s k .args .stored .now) (s k .args .output .now) (s k .pre .0) Write (s k .pre .2) refl (count-is k) (f .before .address-at .ensures)
-      (f .outside .ensures) (i .if1 .taken) (x .fail .ensures)
+    (f .outside .ensures) (i .if1 .taken) (x .fail .ensures)
 
 add-from : tie.Need-add-from
 add-from c = let g = known (c .before .before .before) in omega arith
@@ -118,8 +118,8 @@ returns-2 c =
     let a = z .before .before .before .before .before .before .before .before .before .before .before .before .before .before .before .address-words .ensures .0 in
     let one : k .count .result ≡ 1 = omega (arith, z .before .before .before .before .if2 .taken) in
     did-write (dg k) (s k .args .memory .now) (s k .args .stored .now) (s k .args .output .now) (s k .pre .0) (s k .pre .2) (count-is k) (f .before .address-at .ensures)
-      (f .outside .ensures) (i .if1 .left) (l .last .ensures ∙ ap lastOf w) (l .before .byte1 .ensures .0 ∙ ap byte1Of w) (ap (λ (x : ℕ). s k .args .at + 1 + x) a) (omega (arith, one))
-      (p .before .header-from .ensures) (p .put-both .ensures) (write-one _ (wordsOf (dg k)) _ _ (k .count .result) _ _ (z .store .ensures) (z .before .first .ensures .0) (z .before .before .word-at2 .ensures) one (omega (arith, known k, length-wordsOf (dg k))))
+    (f .outside .ensures) (i .if1 .left) (l .last .ensures ∙ ap lastOf w) (l .before .byte1 .ensures .0 ∙ ap byte1Of w) (ap (λ (x : ℕ). s k .args .at + 1 + x) a) (omega (arith, one))
+    (p .before .header-from .ensures) (p .put-both .ensures) (write-one _ (wordsOf (dg k)) _ _ (k .count .result) _ _ (z .store .ensures) (z .before .first .ensures .0) (z .before .before .word-at2 .ensures) one (omega (arith, known k, length-wordsOf (dg k))))
 
 store-words-requires : tie.Need-store-words-requires
 store-words-requires c κs = let g = known (c .before .before .before .before .before .before .before .before .before .before .before .before .before .before .before .before) in let i = within _ _ _ (sym (c .before .before .before .before .before .before .before .before .before .before .before .before .before .before .outside .ensures) ∙ c .before .before .before .before .before .before .before .before .before .before .before .before .before .if1 .left) in (omega arith, omega arith, omega arith, omega arith)
@@ -150,8 +150,8 @@ returns-3 c =
     let p = z .before .before .before .before .before .before .before in
     let a = z .before .before .before .before .before .before .before .before .before .before .before .before .before .address-words .ensures .0 in
     did-write (dg k) (s k .args .memory .now) (s k .args .stored .now) (s k .args .output .now) (s k .pre .0) (s k .pre .2) (count-is k) (f .before .address-at .ensures)
-      (f .outside .ensures) (i .if1 .left) (l .last .ensures ∙ ap lastOf w) (l .before .byte1 .ensures .0 ∙ ap byte1Of w) (ap (λ (x : ℕ). s k .args .at + 1 + x) a) refl
-      (p .before .header-from .ensures) (p .put-both .ensures) (z .store-words .ensures)
+    (f .outside .ensures) (i .if1 .left) (l .last .ensures ∙ ap lastOf w) (l .before .byte1 .ensures .0 ∙ ap byte1Of w) (ap (λ (x : ℕ). s k .args .at + 1 + x) a) refl
+    (p .before .header-from .ensures) (p .put-both .ensures) (z .store-words .ensures)
 
 pub carry-write-spec : {M : Type 1} → statement M
 carry-write-spec =
