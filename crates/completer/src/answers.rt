@@ -4,8 +4,21 @@ ghost use mathlib.Core.List.{_∷_, []};
 ghost use Prim.Native.Nat.{_+_, _*_, _<_, _≤_};
 ghost use lib.ListN.{length, take};
 ghost use Rattle.word.specs.Words.{longest};
+ghost use Rattle.message.specs.Header.{headerFrom};
+ghost use Rattle.message.specs.Answer.{codeOf};
 ghost use Rattle.completer.specs.Answers.{advertisement};
 ghost use Rattle.completer.specs.Carrying.{keptIn, Puts};
+use message::answer;
+use message::answer::Status;
+use message::header;
+
+// The header of one command's answer.
+pub fn head(byte: u32, status: Status, count: usize, last: bool) -> u32
+    requires { ⌜ (byte < 256) × (count < 4096) ⌝ }
+    ensures { λ r. ⌜ r ≡ headerFrom byte (codeOf status) count last ⌝ }
+{
+    header::header_from(byte, answer::code(status), count, last)
+}
 
 // One word of the stored answer, where it is kept.
 fn keep_word(stored: &mut [u32], keep: bool, n: usize, w: u32)

@@ -11,6 +11,7 @@ ghost use Rattle.completer.specs.Carrying.{asked, Room, Here, CarriesAt,
 use crate::answers;
 use crate::moves;
 use message::answer;
+use message::answer::Status;
 use message::header;
 use message::header::Kind;
 use message::request;
@@ -32,11 +33,6 @@ pub struct Carried {
     pub next: usize,
 }
 
-// The status of a command that was done, and of one that fails.
-const OK: u32 = 0;
-
-const ERROR: u32 = 2;
-
 // The answer to a command that fails: it is the last.
 fn fail(stored: &mut [u32], output: &mut [u8], task: Task, n: usize) -> Carried
     requires { ⌜ (task .answer < 256) × (n < limit) × Room (now stored) (now output) ⌝ }
@@ -47,11 +43,12 @@ fn fail(stored: &mut [u32], output: &mut [u8], task: Task, n: usize) -> Carried
         output,
         task.keep,
         n,
-        header::header_from(task.answer, ERROR, 0, true),
+        answers::head(task.answer, Status::Error, 0, true),
     );
+    let words = n + 1;
     Carried {
         stop: true,
-        words: n + 1,
+        words,
         next: 0,
     }
 }
@@ -76,13 +73,15 @@ fn carry_nop(
         output,
         task.keep,
         n,
-        header::header_from(task.answer, OK, count, last),
+        answers::head(task.answer, Status::Ok, count, last),
     );
     answers::put_advert(stored, output, task.keep, n + 1, task.mark, count);
+    let words = n + 1 + count;
+    let next = at + 1 + count;
     Carried {
         stop: last,
-        words: n + 1 + count,
-        next: at + 1 + count,
+        words,
+        next,
     }
 }
 
@@ -115,8 +114,9 @@ fn carry_write(
         output,
         task.keep,
         n,
-        header::header_from(task.answer, OK, 0, last),
+        answers::head(task.answer, Status::Ok, 0, last),
     );
+    let words = n + 1;
     if count == 1 {
         moves::store(
             memory,
@@ -124,17 +124,20 @@ fn carry_write(
             word::word_at(datagram, from),
             header::first(byte1),
         );
+        // Here the next header's place does not wait for the count.
+        let next = from + 1;
         return Carried {
             stop: last,
-            words: n + 1,
-            next: from + 1,
+            words,
+            next,
         };
     }
     moves::store_words(memory, base, datagram, from, count, byte1);
+    let next = from + count;
     Carried {
         stop: last,
-        words: n + 1,
-        next: from + count,
+        words,
+        next,
     }
 }
 
@@ -166,21 +169,23 @@ fn carry_read(
         output,
         task.keep,
         n,
-        header::header_from(task.answer, OK, count, last),
+        answers::head(task.answer, Status::Ok, count, last),
     );
     if count == 1 {
         answers::put_both(stored, output, task.keep, n + 1, memory[base]);
+        let words = n + 2;
         return Carried {
             stop: last,
-            words: n + 2,
+            words,
             next,
         };
     }
     let end = base + count;
     answers::put_run(stored, output, task.keep, n + 1, &memory[base..end]);
+    let words = n + 1 + count;
     Carried {
         stop: last,
-        words: n + 1 + count,
+        words,
         next,
     }
 }

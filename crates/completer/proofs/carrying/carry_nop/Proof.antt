@@ -38,8 +38,8 @@ count-requires c κs = search needs
 last-requires : tie.Need-last-requires
 last-requires c κs = search needs
 
-header-from-requires : tie.Need-header-from-requires
-header-from-requires c κs = search needs
+head-requires : tie.Need-head-requires
+head-requires c κs = search needs
 
 put-both-requires : tie.Need-put-both-requires
 put-both-requires c κs = search needs
@@ -50,17 +50,17 @@ add-put-advert c = search needs
 put-advert-requires : tie.Need-put-advert-requires
 put-advert-requires c κs = let g = known (c .before .before .before .before .before .before .before .before .before .before .before) in (omega arith, omega arith, omega arith)
 
-add-t20 : tie.Need-add-t20
-add-t20 c = search needs
+add-words : tie.Need-add-words
+add-words c = search needs
 
-add-t21 : tie.Need-add-t21
-add-t21 c = search needs
+add-words-2 : tie.Need-add-words-2
+add-words-2 c = search needs
 
-add-t22 : tie.Need-add-t22
-add-t22 c = let g = known (c .before .before .before .before .before .before .before .before .before .before .before .before .before .before .before .before) in omega arith
+add-next : tie.Need-add-next
+add-next c = let g = known (c .before .before .before .before .before .before .before .before .before .before .before .before .before .before .before .before) in omega arith
 
-add-t23 : tie.Need-add-t23
-add-t23 c = let g = known (c .before .before .before .before .before .before .before .before .before .before .before .before .before .before .before .before) in omega arith
+add-next-2 : tie.Need-add-next-2
+add-next-2 c = let g = known (c .before .before .before .before .before .before .before .before .before .before .before .before .before .before .before .before) in omega arith
 
 same-length : tie.Need-same-length
 same-length c = search needs
@@ -75,7 +75,7 @@ returns c =
     let l = p .before .before .before .before in
     let k = l .before in
     λ m. did-nop (dg k) m (s k .args .stored .now) (s k .args .output .now) (s k .pre .0) (s k .pre .2) (s k .pre .1) (count-is k)
-    (l .last .ensures ∙ ap lastOf (k .before .word-at .ensures)) (p .before .header-from .ensures) (p .put-both .ensures) (q .put-advert .ensures)
+    (l .last .ensures ∙ ap lastOf (k .before .word-at .ensures)) (p .before .head .ensures) (p .put-both .ensures) (q .put-advert .ensures)
 
 pub carry-nop-spec : {M : Type 1} → statement M
 carry-nop-spec =
@@ -84,14 +84,14 @@ carry-nop-spec =
     word-at-requires
     count-requires
     last-requires
-    header-from-requires
+    head-requires
     put-both-requires
     add-put-advert
     put-advert-requires
-    add-t20
-    add-t21
-    add-t22
-    add-t23
+    add-words
+    add-words-2
+    add-next
+    add-next-2
     same-length
     same-length-2
     returns)

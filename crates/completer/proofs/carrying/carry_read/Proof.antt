@@ -73,8 +73,8 @@ add-next-2 c = let g = known (c .before .before .before .before) in omega arith
 last-requires : tie.Need-last-requires
 last-requires c κs = search needs
 
-header-from-requires : tie.Need-header-from-requires
-header-from-requires c κs = search needs
+head-requires : tie.Need-head-requires
+head-requires c κs = search needs
 
 put-both-requires : tie.Need-put-both-requires
 put-both-requires c κs = search needs
@@ -91,8 +91,8 @@ shared-slice-read-put-both c = let g = known (c .before .before .before .before 
 put-both-requires-2 : tie.Need-put-both-requires-2
 put-both-requires-2 c κs = let g = known (c .before .before .before .before .before .before .before .before .before .before .before .before .before .before .before .before .before) in (omega arith, omega arith)
 
-add-t35 : tie.Need-add-t35
-add-t35 c = let g = known (c .before .before .before .before .before .before .before .before .before .before .before .before .before .before .before .before .before .before .before .before .before .before) in omega arith
+add-words : tie.Need-add-words
+add-words c = let g = known (c .before .before .before .before .before .before .before .before .before .before .before .before .before .before .before .before .before .before .before .before .before .before) in omega arith
 
 same-length-3 : tie.Need-same-length-3
 same-length-3 c = search needs
@@ -113,7 +113,7 @@ returns-2 c =
     let r = within _ _ _ (sym (f .outside .ensures) ∙ i .if1 .left) in
     did-read (dg k) (s k .args .memory .now) (s k .args .stored .now) (s k .args .output .now) (s k .pre .0) (s k .pre .2) (s k .pre .1) (count-is k)
     (f .before .address-at .ensures) (f .outside .ensures) (i .if1 .left) (z .before .before .before .before .before .before .before .before .before .before .before .before .before .last .ensures ∙ ap lastOf w) (ap (λ (x : ℕ). s k .args .at + 1 + x) a)
-    (omega (arith, one)) (p .before .header-from .ensures) (p .put-both .ensures) (read-one (s k .args .memory .now) _ (k .count .result) one (omega (arith, r, one))) (z .put-both2 .ensures)
+    (omega (arith, one)) (p .before .head .ensures) (p .put-both .ensures) (read-one (s k .args .memory .now) _ (k .count .result) one (omega (arith, r, one))) (z .put-both2 .ensures)
 
 add-end : tie.Need-add-end
 add-end c = search needs
@@ -136,11 +136,11 @@ part-put-run-end c = let g = known (c .before .before .before .before .before .b
 put-run-requires : tie.Need-put-run-requires
 put-run-requires c κs = let g = known (c .before .before .before .before .before .before .before .before .before .before .before .before .before .before .before .before .before) in let i = within _ _ _ (sym (c .before .before .before .before .before .before .before .before .before .before .before .before .before .before .before .outside .ensures) ∙ c .before .before .before .before .before .before .before .before .before .before .before .before .before .before .if1 .left) in simp (length-take, length-drop) (omega arith, omega arith, omega arith)
 
-add-t16 : tie.Need-add-t16
-add-t16 c = let g = known (c .before .before .before .before .before .before .before .before .before .before .before .before .before .before .before .before .before .before .before .before .before .before) in omega arith
+add-words-2 : tie.Need-add-words-2
+add-words-2 c = let g = known (c .before .before .before .before .before .before .before .before .before .before .before .before .before .before .before .before .before .before .before .before .before .before) in omega arith
 
-add-t44 : tie.Need-add-t44
-add-t44 c = let g = known (c .before .before .before .before .before .before .before .before .before .before .before .before .before .before .before .before .before .before .before .before .before .before) in omega arith
+add-words-3 : tie.Need-add-words-3
+add-words-3 c = let g = known (c .before .before .before .before .before .before .before .before .before .before .before .before .before .before .before .before .before .before .before .before .before .before) in omega arith
 
 same-length-5 : tie.Need-same-length-5
 same-length-5 c = search needs
@@ -159,7 +159,7 @@ returns-3 c =
     let a = z .before .before .before .before .before .before .before .before .before .before .before .before .before .before .address-words .ensures .0 in
     did-read (dg k) (s k .args .memory .now) (s k .args .stored .now) (s k .args .output .now) (s k .pre .0) (s k .pre .2) (s k .pre .1) (count-is k)
     (f .before .address-at .ensures) (f .outside .ensures) (i .if1 .left) (z .before .before .before .before .before .before .before .before .before .before .before .before .before .last .ensures ∙ ap lastOf w) (ap (λ (x : ℕ). s k .args .at + 1 + x) a)
-    refl (p .before .header-from .ensures) (p .put-both .ensures) (read-part (s k .args .memory .now) (f .before .address-at .result / 4) (k .count .result)) (z .put-run .ensures)
+    refl (p .before .head .ensures) (p .put-both .ensures) (read-part (s k .args .memory .now) (f .before .address-at .result / 4) (k .count .result)) (z .put-run .ensures)
 
 pub carry-read-spec : {M : Type 1} → statement M
 carry-read-spec =
@@ -177,13 +177,13 @@ carry-read-spec =
     address-words-requires
     add-next-2
     last-requires
-    header-from-requires
+    head-requires
     put-both-requires
     add-put-both
     mul-put-both
     shared-slice-read-put-both
     put-both-requires-2
-    add-t35
+    add-words
     same-length-3
     same-length-4
     returns-2
@@ -194,8 +194,8 @@ carry-read-spec =
     part-put-run-start
     part-put-run-end
     put-run-requires
-    add-t16
-    add-t44
+    add-words-2
+    add-words-3
     same-length-5
     same-length-6
     returns-3)

@@ -76,11 +76,14 @@ byte1-requires c κs = search needs
 last-requires : tie.Need-last-requires
 last-requires c κs = search needs
 
-header-from-requires : tie.Need-header-from-requires
-header-from-requires c κs = search needs
+head-requires : tie.Need-head-requires
+head-requires c κs = search needs
 
 put-both-requires : tie.Need-put-both-requires
 put-both-requires c κs = search needs
+
+add-words : tie.Need-add-words
+add-words c = search needs
 
 word-at-requires-2 : tie.Need-word-at-requires-2
 word-at-requires-2 c κs = let g = known (c .before .before .before .before .before .before .before .before .before .before .before .before .before .before .before .before) in omega arith
@@ -91,11 +94,8 @@ first-requires c κs = search needs
 store-requires : tie.Need-store-requires
 store-requires c κs = let g = known (c .before .before .before .before .before .before .before .before .before .before .before .before .before .before .before .before .before .before) in let i = within _ _ _ (sym (c .before .before .before .before .before .before .before .before .before .before .before .before .before .before .before .before .outside .ensures) ∙ c .before .before .before .before .before .before .before .before .before .before .before .before .before .before .before .if1 .left) in omega arith
 
-add-t35 : tie.Need-add-t35
-add-t35 c = let g = known (c .before .before .before .before .before .before .before .before .before .before .before .before .before .before .before .before .before .before .before .before .before) in omega arith
-
-add-t36 : tie.Need-add-t36
-add-t36 c = let g = known (c .before .before .before .before .before .before .before .before .before .before .before .before .before .before .before .before .before .before .before .before .before) in omega (arith, long (c .before .before .before .before .before .before .before .before .before .before .before .before .before .before .before .before .before .before .before .before .before))
+add-next : tie.Need-add-next
+add-next c = let g = known (c .before .before .before .before .before .before .before .before .before .before .before .before .before .before .before .before .before .before .before .before .before) in omega (arith, long (c .before .before .before .before .before .before .before .before .before .before .before .before .before .before .before .before .before .before .before .before .before))
 
 same-length-3 : tie.Need-same-length-3
 same-length-3 c = search needs
@@ -119,16 +119,13 @@ returns-2 c =
     let one : k .count .result ≡ 1 = omega (arith, z .before .before .before .before .if2 .taken) in
     did-write (dg k) (s k .args .memory .now) (s k .args .stored .now) (s k .args .output .now) (s k .pre .0) (s k .pre .2) (count-is k) (f .before .address-at .ensures)
     (f .outside .ensures) (i .if1 .left) (l .last .ensures ∙ ap lastOf w) (l .before .byte1 .ensures .0 ∙ ap byte1Of w) (ap (λ (x : ℕ). s k .args .at + 1 + x) a) (omega (arith, one))
-    (p .before .header-from .ensures) (p .put-both .ensures) (write-one _ (wordsOf (dg k)) _ _ (k .count .result) _ _ (z .store .ensures) (z .before .first .ensures .0) (z .before .before .word-at2 .ensures) one (omega (arith, known k, length-wordsOf (dg k))))
+    (p .before .head .ensures) (p .put-both .ensures) (write-one _ (wordsOf (dg k)) _ _ (k .count .result) _ _ (z .store .ensures) (z .before .first .ensures .0) (z .before .before .word-at2 .ensures) one (omega (arith, known k, length-wordsOf (dg k))))
 
 store-words-requires : tie.Need-store-words-requires
 store-words-requires c κs = let g = known (c .before .before .before .before .before .before .before .before .before .before .before .before .before .before .before .before) in let i = within _ _ _ (sym (c .before .before .before .before .before .before .before .before .before .before .before .before .before .before .outside .ensures) ∙ c .before .before .before .before .before .before .before .before .before .before .before .before .before .if1 .left) in (omega arith, omega arith, omega arith, omega arith)
 
-add-t16 : tie.Need-add-t16
-add-t16 c = let g = known (c .before .before .before .before .before .before .before .before .before .before .before .before .before .before .before .before .before .before .before) in omega arith
-
-add-t22 : tie.Need-add-t22
-add-t22 c = let g = known (c .before .before .before .before .before .before .before .before .before .before .before .before .before .before .before .before .before .before .before) in omega (arith, long (c .before .before .before .before .before .before .before .before .before .before .before .before .before .before .before .before .before .before .before))
+add-next-2 : tie.Need-add-next-2
+add-next-2 c = let g = known (c .before .before .before .before .before .before .before .before .before .before .before .before .before .before .before .before .before .before .before) in omega (arith, long (c .before .before .before .before .before .before .before .before .before .before .before .before .before .before .before .before .before .before .before))
 
 same-length-6 : tie.Need-same-length-6
 same-length-6 c = search needs
@@ -151,7 +148,7 @@ returns-3 c =
     let a = z .before .before .before .before .before .before .before .before .before .before .before .before .before .address-words .ensures .0 in
     did-write (dg k) (s k .args .memory .now) (s k .args .stored .now) (s k .args .output .now) (s k .pre .0) (s k .pre .2) (count-is k) (f .before .address-at .ensures)
     (f .outside .ensures) (i .if1 .left) (l .last .ensures ∙ ap lastOf w) (l .before .byte1 .ensures .0 ∙ ap byte1Of w) (ap (λ (x : ℕ). s k .args .at + 1 + x) a) refl
-    (p .before .header-from .ensures) (p .put-both .ensures) (z .store-words .ensures)
+    (p .before .head .ensures) (p .put-both .ensures) (z .store-words .ensures)
 
 pub carry-write-spec : {M : Type 1} → statement M
 carry-write-spec =
@@ -170,20 +167,19 @@ carry-write-spec =
     add-from-2
     byte1-requires
     last-requires
-    header-from-requires
+    head-requires
     put-both-requires
+    add-words
     word-at-requires-2
     first-requires
     store-requires
-    add-t35
-    add-t36
+    add-next
     same-length-3
     same-length-4
     same-length-5
     returns-2
     store-words-requires
-    add-t16
-    add-t22
+    add-next-2
     same-length-6
     same-length-7
     same-length-8
