@@ -8,3 +8,4 @@ pub mod Standing
 pub mod Going
 pub mod Answers
 pub mod Judged
+pub mod Pieces

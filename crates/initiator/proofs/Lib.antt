@@ -1,0 +1,2 @@
+-- Laws of building that belong to no one function; the crates above cite them.
+pub mod Passed
