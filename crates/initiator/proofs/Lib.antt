@@ -1,2 +1,3 @@
 -- Laws of building that belong to no one function; the crates above cite them.
 pub mod Passed
+pub mod Calls

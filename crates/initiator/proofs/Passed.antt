@@ -4,7 +4,7 @@ use Prim.Native.Nat.{ℕ, zero, suc, _+_, _-_, _*_, _<_, _≤_}
 use mathlib.Core.Path.{_≡_, refl, sym, ap, _∙_}
 use mathlib.Core.Bool.{Bool, true, false, not, cond, _&&_, false≢true}
 use native.Mathlib.Omega.{arith}
-use borrow.Author.Tests.{ltb-true, leb-true, eqb-true, eqb-false, not-true, not-false}
+use borrow.Author.Tests.{ltb-true, leb-true, eqb-true, eqb-false, ne-eqb, not-true}
 use lib.Dec.{ltb, leb, eqb}
 use Rattle.message.specs.declared.header.Kind.{Kind}
 use Rattle.message.specs.declared.header.Kind.the-variants.{Nop, Write, Read, Response}
@@ -15,7 +15,7 @@ use Rattle.initiator.specs.declared.building.Building.{Building}
 use Rattle.initiator.specs.declared.asked.Asked.{Asked}
 use Rattle.initiator.specs.Building.{startOk, byteOf, freshOk, shapeOk, someOk, reachable}
 use Rattle.initiator.specs.Asked.{countBy, countFits, fieldsOk, enablesFit, addressFits, sizeBy, replyBy, roomFits, commandFault}
-use Rattle.initiator.specs.Build.{usable, addFault, closeFault}
+use Rattle.initiator.specs.Build.{longOk, usable, addFault, closeFault}
 
 -- two tests that both pass
 pub both : (a b : Bool) → a && b ≡ true → (a ≡ true) × (b ≡ true)
@@ -77,14 +77,19 @@ bounded b e = go (eqb (b .words) 0) refl (both (startOk (b .kind) (b .tag)) _ e)
         let o = some-is b (t .1) in
         record { kind = s .0; tag = s .1; words = o .words; answer = o .answer; last = omega arith }
 
+-- where there are words, something was added
+pub reached-some : (b : Building) → reachable b ≡ true → (b .words ≡ 0 → ⊥) → Some b
+unfolding reachable
+reached-some b e z = some-is b (both (startOk (b .kind) (b .tag)) (someOk b) (rw (ne-eqb (b .words) 0 z) at e) .1)
+
 -- nothing is wrong with a command of this count
 pub record Fitting (byte0 words answer : ℕ) (asked : Asked) (count : ℕ) : Type 0 where
   pub twelve : count < 4096
   pub counted : countOk (kindOf byte0) count ≡ true
   pub enabled : enablesFit (kindOf byte0) count (asked .first) (asked .last) ≡ true
   pub reaches : addressFits (kindOf byte0) (wideOf byte0) (asked .address) ≡ true
-  pub words : words + sizeBy byte0 count ≤ limit
-  pub answer : answer + replyBy byte0 count ≤ limit
+  pub short : words + sizeBy byte0 count ≤ limit
+  pub few : answer + replyBy byte0 count ≤ limit
 
 pub count-twelve : (kind : Kind) (count : ℕ) → countFits kind count ≡ true → (count < 4096) × (countOk kind count ≡ true)
 unfolding countFits
@@ -99,14 +104,14 @@ fitting byte0 words answer asked count e =
     let t4 = passed (roomFits byte0 words answer count) 26 0 (omega arith) (t3 .1) in
     let c = count-twelve (kindOf byte0) count (t1 .0) in
     let r = both _ _ (t4 .0) in
-    record { twelve = c .0; counted = c .1; enabled = t2 .0; reaches = t3 .0; words = leb-true _ _ (r .0); answer = leb-true _ _ (r .1) }
+    record { twelve = c .0; counted = c .1; enabled = t2 .0; reaches = t3 .0; short = leb-true _ _ (r .0); few = leb-true _ _ (r .1) }
 
 -- an add that is not refused
 pub record Adds (room : ℕ) (b : Building) (asked : Asked) (count : ℕ) : Type 0 where
   pub long : limitBytes ≤ room
   pub reached : reachable b ≡ true
   pub bounds : Bounded b
-  pub open : b .closed ≡ false
+  pub opens : b .closed ≡ false
   pub fits : Fitting (byteOf b) (b .words) (b .answer) asked count
 
 pub adds : (room : ℕ) (b : Building) (asked : Asked) (lent : ℕ) → addFault room b asked lent ≡ 0
@@ -116,15 +121,15 @@ adds room b asked lent e =
     let t1 = passed (usable room b) 21 _ (omega arith) e in
     let t2 = passed (not (b .closed)) 22 _ (omega arith) (t1 .1) in
     let u = both _ _ (t1 .0) in
-    record { long = leb-true _ _ (u .0); reached = u .1; bounds = bounded b (u .1); open = not-true _ (t2 .0); fits = fitting _ _ _ _ _ (t2 .1) }
+    record { long = leb-true _ _ (u .0); reached = u .1; bounds = bounded b (u .1); opens = not-true _ (t2 .0); fits = fitting _ _ _ _ _ (t2 .1) }
 
 -- a close that is not refused
 pub record Closes (room : ℕ) (b : Building) : Type 0 where
   pub long : limitBytes ≤ room
   pub reached : reachable b ≡ true
   pub bounds : Bounded b
-  pub open : b .closed ≡ false
-  pub some : 0 < b .words
+  pub opens : b .closed ≡ false
+  pub some : Some b
 
 pub closes : (room : ℕ) (b : Building) → closeFault room b ≡ 0 → Closes room b
 unfolding closeFault
@@ -133,8 +138,8 @@ closes room b e =
     let t2 = passed (not (b .closed) && not (eqb (b .words) 0)) 22 0 (omega arith) (t1 .1) in
     let u = both _ _ (t1 .0) in
     let v = both _ _ (t2 .0) in
-    let z = eqb-false _ _ (not-true _ (v .1)) in
-    record { long = leb-true _ _ (u .0); reached = u .1; bounds = bounded b (u .1); open = not-true _ (v .0); some = omega arith }
+    let z : b .words ≡ 0 → ⊥ = eqb-false _ _ (not-true _ (v .1)) in
+    record { long = leb-true _ _ (u .0); reached = u .1; bounds = bounded b (u .1); opens = not-true _ (v .0); some = reached-some b (u .1) z }
 
 -- a write's enables are two fields of four bits
 pub fields-lt : (count first last : ℕ) → fieldsOk count first last ≡ true → (first < 16) × (last < 16)
@@ -143,3 +148,6 @@ fields-lt count first last e =
     let t = both _ _ e in
     let u = both _ _ (t .0) in
     (ltb-true _ _ (u .0), ltb-true _ _ (u .1))
+
+pub usable-bounded : (room : ℕ) (b : Building) → usable room b ≡ true → Bounded b
+usable-bounded room b e = bounded b (both (longOk room) (reachable b) e .1)

@@ -27,11 +27,11 @@ byte1By Read first last = 0
 byte1By Response first last = 0
 
 -- "a NOP carries count words and no address"
-abbrev pub addressBy : Kind → ℕ → ℕ
-addressBy Nop address = 0
-addressBy Write address = address
-addressBy Read address = address
-addressBy Response address = 0
+abbrev pub addressSent : Kind → ℕ → ℕ
+addressSent Nop address = 0
+addressSent Write address = address
+addressSent Read address = address
+addressSent Response address = 0
 
 -- "a read carries its address only"
 abbrev pub carriedBy : Kind → List ℕ → List ℕ
@@ -46,7 +46,7 @@ commandBy byte0 asked payload =
     record {
       byte1 = byte1By (kindOf byte0) (asked .first) (asked .last);
       count = countBy (kindOf byte0) (asked .count) (length payload);
-      address = addressBy (kindOf byte0) (asked .address);
+      address = addressSent (kindOf byte0) (asked .address);
       payload = carriedBy (kindOf byte0) payload;
     }
 

@@ -4,7 +4,7 @@ ghost use Prim.Native.Nat.{_<_, _≤_};
 ghost use mathlib.Core.Bool.{true, false};
 ghost use Rattle.message.specs.Limits.{limit};
 ghost use Rattle.message.specs.Header.{kindOf, headerFrom};
-ghost use Rattle.initiator.specs.Asked.{countBy, byte1By, addressBy, countFits, fieldsOk, enablesFit, narrowOk, addressFits, sizeBy, replyBy, roomFits, commandFault};
+ghost use Rattle.initiator.specs.Asked.{countBy, byte1By, addressSent, countFits, fieldsOk, enablesFit, narrowOk, addressFits, sizeBy, replyBy, roomFits, commandFault};
 use crate::refusals;
 use message::header;
 use message::header::Kind;
@@ -45,8 +45,8 @@ fn byte1_by(kind: Kind, count: usize, first: u32, last: u32) -> u32
 }
 
 // The address that is sent: a NOP has none.
-pub fn address_by(kind: Kind, address: u64) -> u64
-    ensures { λ r. ⌜ r ≡ addressBy kind address ⌝ }
+pub fn address_sent(kind: Kind, address: u64) -> u64
+    ensures { λ r. ⌜ (r ≡ addressSent kind address) × (r < 18446744073709551616) ⌝ }
 {
     match kind {
         Kind::Nop => 0,

@@ -1,46 +1,39 @@
+-- `initiator::asked::byte1_by` meets its contract: two fields of four bits. Assumes nothing.
+use native.Mathlib.Omega.{arith}
+use Rattle.initiator.proofs.Passed.{fields-lt}
 use borrow.Author.Needs.{needs}
 use Rattle.initiator.proofs.asked.byte1_by.Statement.{statement}
 use Rattle.initiator.proofs.asked.byte1_by.Tie as tie
-use Rattle.initiator.proofs.asked.byte1_by.Reads as reads
-use Rattle.initiator.proofs.asked.byte1_by.Lts as lts
 
--- src/asked.rt:40:22
 enum-told : tie.Need-enum-told
 enum-told c = search needs
 
--- src/asked.rt:41:32
 enum-told-2 : tie.Need-enum-told-2
 enum-told-2 c = search needs
 
--- src/asked.rt:41:32
 mul-result : tie.Need-mul-result
-mul-result c = ?
+mul-result c = omega (arith, fields-lt _ _ _ (rw (c .enum-told2 .given .1) at (c .before .before .pre)))
 
--- src/asked.rt:41:24
 add-result : tie.Need-add-result
-add-result c = ?
+add-result c = omega (arith, fields-lt _ _ _ (rw (c .enum-told2 .given .1) at (c .before .before .pre)))
 
--- src/asked.rt:42:23
 enum-told-3 : tie.Need-enum-told-3
 enum-told-3 c = search needs
 
--- src/asked.rt:43:27
 enum-told-4 : tie.Need-enum-told-4
 enum-told-4 c = search needs
 
--- src/asked.rt:35:1
 returns : tie.Need-returns
 returns c = search needs
 
--- src/asked.rt:35:1
 returns-2 : tie.Need-returns-2
-returns-2 c = ?
+returns-2 c =
+    let h = fields-lt _ _ _ (rw (c .enum-told2 .given .1) at (c .before .before .pre)) in
+    (rw (c .enum-told2 .given .1), omega arith)
 
--- src/asked.rt:35:1
 returns-3 : tie.Need-returns-3
 returns-3 c = search needs
 
--- src/asked.rt:35:1
 returns-4 : tie.Need-returns-4
 returns-4 c = search needs
 

@@ -10,7 +10,7 @@ returns c = search tests
 
 returns-2 : tie.Need-returns-2
 unfolding narrowOk
-returns-2 c = search tests
+returns-2 c = rw (c .if1 .left)
 
 pub narrow-ok-spec : {M : Type 1} → statement M
 narrow-ok-spec = tie.close (tie.spec returns returns-2)

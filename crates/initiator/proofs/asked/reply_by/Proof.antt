@@ -16,7 +16,7 @@ add-result c = search needs
 
 returns : tie.Need-returns
 unfolding replyBy
-returns c = ?
+returns c = (rw (c .reply-words .ensures .0, c .before .kind-of .ensures), omega arith)
 
 pub reply-by-spec : {M : Type 1} → statement M
 reply-by-spec = tie.close (tie.spec kind-of-requires reply-words-requires add-result returns)

@@ -22,7 +22,7 @@ add-result-2 c = search needs
 
 returns : tie.Need-returns
 unfolding sizeBy
-returns c = ?
+returns c = (rw (c .before .before .address-words .ensures .0, c .data-words .ensures .0, c .before .kind-of .ensures), omega arith)
 
 pub size-by-spec : {M : Type 1} → statement M
 size-by-spec =

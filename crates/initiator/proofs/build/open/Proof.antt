@@ -1,4 +1,5 @@
 -- `initiator::build::open` meets its contract: the record of its fields. Assumes nothing.
+use mathlib.Core.Path.{refl}
 use Rattle.initiator.specs.Build.{opened}
 use Rattle.initiator.proofs.build.open.Statement.{statement}
 use Rattle.initiator.proofs.build.open.Tie as tie

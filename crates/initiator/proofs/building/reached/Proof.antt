@@ -1,35 +1,33 @@
+-- `initiator::building::reached` meets its contract: begin's four, then nothing added or something. Assumes nothing.
+use borrow.Author.Tests.{eq-eqb, ne-eqb}
+use Rattle.word.proofs.Rules.{tests}
+use Rattle.word.proofs.Rules.{flag-on, flag-off}
+use Rattle.initiator.proofs.Passed.{start-tag}
+use Rattle.initiator.specs.Building.{reachable}
 use borrow.Author.Needs.{needs}
 use Rattle.initiator.proofs.building.reached.Statement.{statement}
 use Rattle.initiator.proofs.building.reached.Tie as tie
-use Rattle.initiator.proofs.building.reached.Reads as reads
-use Rattle.initiator.proofs.building.reached.Lts as lts
-use Rattle.initiator.proofs.building.fresh_ok.Reads as fresh-ok-reads
-use Rattle.initiator.proofs.building.some_ok.Reads as some-ok-reads
-use Rattle.initiator.proofs.building.start_ok.Reads as start-ok-reads
 
--- src/building.rt:131:9
 start-ok-requires : tie.Need-start-ok-requires
 start-ok-requires c κs = search needs
 
--- src/building.rt:132:9
 returns : tie.Need-returns
-returns c = ?
+unfolding reachable
+returns c = rw (flag-off (c .before .start-ok .ensures) (c .if1 .taken))
 
--- src/building.rt:135:9
 fresh-ok-requires : tie.Need-fresh-ok-requires
 fresh-ok-requires c κs = search needs
 
--- src/building.rt:135:9
 returns-2 : tie.Need-returns-2
-returns-2 c = ?
+unfolding reachable
+returns-2 c = rw (flag-on (c .before .before .before .before .start-ok .ensures) (c .before .before .before .if1 .left), eq-eqb _ _ (c .before .if2 .taken)) (c .fresh-ok .ensures)
 
--- src/building.rt:137:5
 some-ok-requires : tie.Need-some-ok-requires
-some-ok-requires c κs = ?
+some-ok-requires c κs = start-tag _ _ (flag-on (c .before .before .before .start-ok .ensures) (c .before .before .if1 .left)) .1
 
--- src/building.rt:128:1
 returns-3 : tie.Need-returns-3
-returns-3 c = ?
+unfolding reachable
+returns-3 c = rw (flag-on (c .before .before .before .before .start-ok .ensures) (c .before .before .before .if1 .left), ne-eqb _ _ (c .before .if2 .left)) (c .some-ok .ensures)
 
 pub reached-spec : {M : Type 1} → statement M
 reached-spec =

@@ -1,4 +1,6 @@
 -- `initiator::building::reads_ok` meets its contract: three tests. Assumes nothing.
+use Prim.Native.Nat.{_+_}
+use native.Mathlib.Nat.{div-le-self}
 use Rattle.word.proofs.Rules.{tests}
 use native.Mathlib.Omega.{arith}
 use Rattle.initiator.specs.Building.{readsOk}
@@ -33,7 +35,7 @@ div-result : tie.Need-div-result
 div-result c = search needs
 
 mul-result : tie.Need-mul-result
-mul-result c = ?
+mul-result c = omega (arith, div-le-self (c .before .before .args .words) (1 + c .before .before .args .a))
 
 returns-3 : tie.Need-returns-3
 unfolding readsOk

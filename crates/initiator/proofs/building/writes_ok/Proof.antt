@@ -1,4 +1,8 @@
 -- `initiator::building::writes_ok` meets its contract: three tests. Assumes nothing.
+use Rattle.message.specs.Limits.{limit}
+use Prim.Native.Nat.{_+_, _-_}
+use Prim.Native.Nat.{_≤_}
+use native.Mathlib.Nat.{mul-le-mul}
 use Rattle.word.proofs.Rules.{tests}
 use native.Mathlib.Omega.{arith}
 use Rattle.initiator.specs.Building.{writesOk}
@@ -27,7 +31,9 @@ add-result : tie.Need-add-result
 add-result c = search needs
 
 mul-result : tie.Need-mul-result
-mul-result c = ?
+mul-result c =
+    let s = c .before .before in
+    omega (arith, mul-le-mul {n₁ = s .args .answer - 1} {m₁ = 2 + s .args .a} {n₂ = limit} {m₂ = 4} (omega arith) (omega arith))
 
 returns-3 : tie.Need-returns-3
 unfolding writesOk

@@ -1,4 +1,5 @@
 -- `initiator::discovery::bytes` meets its contract: its bytes, computed. Assumes nothing.
+use mathlib.Core.Path.{refl}
 use Rattle.initiator.specs.Discovery.{discoveryWords, discoveryBytes}
 use Rattle.word.specs.Words.{bytesOf}
 use borrow.Author.Needs.{needs}
