@@ -1,18 +1,25 @@
 -- A request's words piece by piece: an address, a command, one command more. Whoever writes a request cites these. Assumes nothing.
 use Prim.Native.Nat.{ℕ, zero, suc, _+_, _*_, _/_, _%_, _<_, _≤_}
 use mathlib.Core.Path.{_≡_, refl, sym, ap, _∙_}
-use mathlib.Core.Bool.{Bool, true, false, cond, not, _&&_}
+use mathlib.Core.Bool.{Bool, true, false, cond, not, _&&_, false≢true}
 use mathlib.Core.List.{List, [], _∷_, _++_, append-assoc, append-nil}
 use native.Mathlib.Omega.{arith}
 use borrow.Author.Tests.{lt-ltb, le-ltb}
 use lib.Dec.{ltb, eqb}
-use lib.ListN.{length, length-append}
-use Rattle.word.specs.Words.{Words, Below}
+use lib.ListN.{length, getD, length-append}
+use Rattle.word.specs.Words.{wordsOf, bytesOf, Words, Below}
 use Rattle.word.proofs.Runs.{below-append}
+use Rattle.word.proofs.Crossing.{words-back, bytes-below}
+use Rattle.message.specs.declared.header.Kind.{Kind}
+use Rattle.message.specs.declared.header.Kind.the-variants.{Nop, Write, Read, Response}
+use Rattle.message.specs.Limits.{limit}
 use Rattle.message.specs.Header.{kindOf, bit, headerFrom, addressWords, dataWords, bodyWords, replyWords}
-use Rattle.message.specs.Walk.{patternOk}
-use Rattle.message.specs.Request.{Command, addressIn, addressTop, commandWords, none, requestWords, replies, All, FitsCommand}
-use Rattle.message.specs.Refusals.{openWords}
+use Rattle.message.specs.Walk.{refusal, asks, countOk, patternOk}
+use Rattle.message.specs.Request.{Command, Wrong, addressIn, addressTop, lengthOk, read, commandWords, none, requestWords, replies, All, FitsCommand}
+use Rattle.message.specs.Refusals.{openWords, faultIn, FaultAfter, Exactly}
+use Rattle.message.proofs.Headers.{byte0-back, address-le}
+use Rattle.message.proofs.Round.{address-long, command-words, length-right}
+use Rattle.message.proofs.Exactly.{exactly, counted-asks}
 
 -- an address of none, one and two words, and what they can carry
 pub address-none : (a : ℕ) → addressIn 0 a ≡ []
@@ -107,3 +114,45 @@ some-pattern count = go (ltb count 2)
     go : (b : Bool) → cond b (eqb (cond b 0 15) 0) (not (eqb 15 0) && not (eqb (cond b 0 15) 0)) ≡ true
     go true = refl
     go false = refl
+
+-- a fitting command's words
+pub command-long : (byte0 : ℕ) (last : Bool) (c : Command) → FitsCommand byte0 c → length (commandWords byte0 last c) ≡ 1 + bodyWords byte0 (c .count)
+unfolding commandWords
+command-long byte0 last c f =
+    let ad : List ℕ = addressIn (addressWords byte0) (c .address) in
+    omega (arith, length-append ad (c .payload), address-long (addressWords byte0) (c .address) (address-le byte0), f .long)
+
+-- no bytes are refused as 2, and commands none of which is LAST as 3
+pub read-none : read [] ≡ Wrong (refusal 2)
+unfolding read lengthOk
+read-none = refl
+
+module _ (byte0 : ℕ) (hb : byte0 < 256) where
+  asking : (cs : List Command) → none cs ≡ false → All (FitsCommand byte0) cs → asks (kindOf byte0) ≡ true
+  unfolding All
+  asking [] h f = absurd (false≢true (sym h))
+  asking (c ∷ cs) h f = counted-asks (kindOf byte0) (c .count) (f .0 .counted)
+
+  open-words : asks (kindOf byte0) ≡ true → (cs : List Command) → All (FitsCommand byte0) cs → Words (openWords byte0 cs)
+  unfolding openWords All Below
+  open-words a [] f = tt
+  open-words a (c ∷ cs) f = below-append _ (commandWords byte0 false c) (openWords byte0 cs) (command-words byte0 hb a false c (f .0)) (open-words a cs (f .1))
+
+  open-first : (cs : List Command) → none cs ≡ false → All (FitsCommand byte0) cs → getD (bytesOf (openWords byte0 cs)) 0 0 ≡ byte0
+  unfolding openWords commandWords bytesOf All
+  open-first [] h f = absurd (false≢true (sym h))
+  open-first (c ∷ cs) h f = byte0-back byte0 (c .byte1) (c .count) false hb (f .0 .byte) (f .0 .twelve)
+
+  open-some : (cs : List Command) → none cs ≡ false → 0 < length (openWords byte0 cs)
+  unfolding openWords commandWords
+  open-some [] h = absurd (false≢true (sym h))
+  open-some (c ∷ cs) h = omega arith
+
+  pub open-refused : (cs : List Command) → none cs ≡ false → All (FitsCommand byte0) cs → length (openWords byte0 cs) ≤ limit
+      → read (bytesOf (openWords byte0 cs)) ≡ Wrong (refusal 3)
+  unfolding faultIn
+  open-refused cs h f k =
+      let ws : List ℕ = openWords byte0 cs in
+      let e : wordsOf (bytesOf ws) ≡ openWords byte0 cs ++ [] = words-back ws (open-words (asking cs h f) cs f) ∙ sym (append-nil ws) in
+      let after : FaultAfter (getD (bytesOf ws) 0 0) 3 (wordsOf (bytesOf ws)) = rw (open-first cs h f) (record { good = cs; fit = f; tail = []; is = e; fault = refl }) in
+      exactly (bytesOf ws) (bytes-below ws) .faults 3 (omega arith) (omega arith) .1 (length-right ws (open-some cs h) k, after)
