@@ -3,3 +3,4 @@ pub mod Passed
 pub mod Calls
 pub mod Shapes
 pub mod Reach
+pub mod Sequence

@@ -30,6 +30,9 @@ pub passed : (ok : Bool) (n x : ℕ) → 0 < n → unless ok n x ≡ 0 → (ok �
 passed true n x h e = (refl, e)
 passed false n x h e = absurd (omega arith)
 
+pub off-zero : {n : ℕ} → eqb n 0 ≡ false → n ≡ 0 → ⊥
+off-zero {n} z e = eqb-false n 0 z e
+
 pub start-tag : (kind tag : ℕ) → startOk kind tag ≡ true → (kind < 3) × (tag < 16)
 unfolding startOk
 start-tag kind tag e = let t = both _ _ e in (ltb-true _ _ (t .0), ltb-true _ _ (t .1))
@@ -141,13 +144,13 @@ closes room b e =
     let z : b .words ≡ 0 → ⊥ = eqb-false _ _ (not-true _ (v .1)) in
     record { long = leb-true _ _ (u .0); reached = u .1; bounds = bounded b (u .1); opens = not-true _ (v .0); some = reached-some b (u .1) z }
 
--- a write's enables are two fields of four bits
-pub fields-lt : (count first last : ℕ) → fieldsOk count first last ≡ true → (first < 16) × (last < 16)
+-- a write's enables are two fields of four bits, in a pattern that its count may have
+pub fields-lt : (count first last : ℕ) → fieldsOk count first last ≡ true → (first < 16) × (last < 16) × (patternOk count first last ≡ true)
 unfolding fieldsOk
 fields-lt count first last e =
     let t = both _ _ e in
     let u = both _ _ (t .0) in
-    (ltb-true _ _ (u .0), ltb-true _ _ (u .1))
+    (ltb-true _ _ (u .0), ltb-true _ _ (u .1), t .1)
 
 pub usable-bounded : (room : ℕ) (b : Building) → usable room b ≡ true → Bounded b
 usable-bounded room b e = bounded b (both (longOk room) (reachable b) e .1)

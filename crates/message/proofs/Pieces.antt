@@ -15,7 +15,7 @@ use Rattle.message.specs.declared.header.Kind.the-variants.{Nop, Write, 
 use Rattle.message.specs.Limits.{limit}
 use Rattle.message.specs.Header.{kindOf, bit, headerFrom, addressWords, dataWords, bodyWords, replyWords}
 use Rattle.message.specs.Walk.{refusal, asks, countOk, patternOk}
-use Rattle.message.specs.Request.{Command, Wrong, addressIn, addressTop, lengthOk, read, commandWords, none, requestWords, replies, All, FitsCommand}
+use Rattle.message.specs.Request.{Command, Wrong, addressIn, addressTop, lengthOk, read, commandWords, none, requestWords, written, replies, All, FitsCommand}
 use Rattle.message.specs.Refusals.{openWords, faultIn, FaultAfter, Exactly}
 use Rattle.message.proofs.Headers.{byte0-back, address-le}
 use Rattle.message.proofs.Round.{address-long, command-words, length-right}
@@ -60,6 +60,11 @@ pub command-pieces : (byte0 : ℕ) (last : Bool) (c : Command)
     → commandWords byte0 last c ≡ headerFrom byte0 (c .byte1) (c .count) last ∷ (addressIn (addressWords byte0) (c .address) ++ c .payload)
 unfolding commandWords
 command-pieces byte0 last c = refl
+
+-- a request's bytes
+pub written-is : (byte0 : ℕ) (cs : List Command) → bytesOf (requestWords byte0 cs) ≡ written (record { byte0 = byte0; commands = cs })
+unfolding written
+written-is byte0 cs = refl
 
 -- one command more
 pub open-more : (byte0 : ℕ) (cs : List Command) (c : Command) → openWords byte0 (cs ++ c ∷ []) ≡ openWords byte0 cs ++ commandWords byte0 false c
@@ -122,11 +127,6 @@ command-long byte0 last c f =
     let ad : List ℕ = addressIn (addressWords byte0) (c .address) in
     omega (arith, length-append ad (c .payload), address-long (addressWords byte0) (c .address) (address-le byte0), f .long)
 
--- no bytes are refused as 2, and commands none of which is LAST as 3
-pub read-none : read [] ≡ Wrong (refusal 2)
-unfolding read lengthOk
-read-none = refl
-
 module _ (byte0 : ℕ) (hb : byte0 < 256) where
   asking : (cs : List Command) → none cs ≡ false → All (FitsCommand byte0) cs → asks (kindOf byte0) ≡ true
   unfolding All
@@ -148,11 +148,18 @@ module _ (byte0 : ℕ) (hb : byte0 < 256) where
   open-some [] h = absurd (false≢true (sym h))
   open-some (c ∷ cs) h = omega arith
 
-  pub open-refused : (cs : List Command) → none cs ≡ false → All (FitsCommand byte0) cs → length (openWords byte0 cs) ≤ limit
+  open-three : (cs : List Command) → none cs ≡ false → All (FitsCommand byte0) cs → length (openWords byte0 cs) ≤ limit
       → read (bytesOf (openWords byte0 cs)) ≡ Wrong (refusal 3)
   unfolding faultIn
-  open-refused cs h f k =
+  open-three cs h f k =
       let ws : List ℕ = openWords byte0 cs in
       let e : wordsOf (bytesOf ws) ≡ openWords byte0 cs ++ [] = words-back ws (open-words (asking cs h f) cs f) ∙ sym (append-nil ws) in
       let after : FaultAfter (getD (bytesOf ws) 0 0) 3 (wordsOf (bytesOf ws)) = rw (open-first cs h f) (record { good = cs; fit = f; tail = []; is = e; fault = refl }) in
       exactly (bytesOf ws) (bytes-below ws) .faults 3 (omega arith) (omega arith) .1 (length-right ws (open-some cs h) k, after)
+
+  -- commands none of which is LAST are refused: 2 where there are none, else 3
+  pub open-refused : (cs : List Command) → All (FitsCommand byte0) cs → length (openWords byte0 cs) ≤ limit
+      → read (bytesOf (openWords byte0 cs)) ≡ Wrong (refusal (cond (none cs) 2 3))
+  unfolding read lengthOk openWords bytesOf
+  open-refused [] f k = refl
+  open-refused (c ∷ cs) f k = open-three (c ∷ cs) refl f k
