@@ -4,3 +4,4 @@ pub mod Calls
 pub mod Shapes
 pub mod Reach
 pub mod Sequence
+pub mod Fixed

@@ -1,6 +1,6 @@
 -- `initiator::discovery::bytes` meets its contract: its bytes, computed. Assumes nothing.
 use mathlib.Core.Path.{refl}
-use Rattle.initiator.specs.Discovery.{discoveryWords, discoveryBytes}
+use Rattle.initiator.specs.Discovery.{discoveryBytes}
 use Rattle.word.specs.Words.{bytesOf}
 use borrow.Author.Needs.{needs}
 use Rattle.initiator.proofs.discovery.bytes.Statement.{statement}
@@ -19,7 +19,7 @@ cast-t12 : tie.Need-cast-t12
 cast-t12 c = search needs
 
 returns : tie.Need-returns
-unfolding discoveryWords discoveryBytes bytesOf
+unfolding discoveryBytes bytesOf
 returns c = refl
 
 pub bytes-spec : {M : Type 1} → statement M
