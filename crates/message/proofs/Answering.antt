@@ -5,8 +5,9 @@ use mathlib.Core.Bool.{Bool, true, false}
 use mathlib.Core.List.{List, [], _∷_, _++_}
 use lib.ListN.{length}
 use Rattle.message.specs.Header.{kindOf, headerFrom, replyWords}
-use Rattle.message.specs.Request.{Command, All, replies, none}
-use Rattle.message.specs.Answer.{Answered, codeOf, stops, answeredWords, answerWords, FitsAnswered, FitsAnswers}
+use Rattle.word.specs.Words.{bytesOf}
+use Rattle.message.specs.Request.{Command, Request, All, replies, none}
+use Rattle.message.specs.Answer.{Answered, codeOf, answerByte, stops, answeredWords, answerWords, encodeAnswer, FitsAnswered, FitsAnswers}
 
 -- what holds of all holds of the first and of the rest
 module _ {A : Type 0} (P : A → Type 0) (x : A) (xs : List A) where
@@ -45,3 +46,8 @@ pub fits-on : (byte0 : ℕ) (c : Command) (cs : List Command) (a : Answered) (mo
     → FitsAnswers byte0 cs more → FitsAnswers byte0 (c ∷ cs) (a ∷ more)
 unfolding FitsAnswers
 fits-on byte0 c cs a more f e g = (f, rw e g)
+
+-- an answer's bytes
+pub encoded-is : (r : Request) (items : List Answered) → encodeAnswer r items ≡ bytesOf (answerWords (answerByte (r .byte0)) items)
+unfolding encodeAnswer
+encoded-is r items = refl

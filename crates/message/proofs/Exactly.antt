@@ -91,7 +91,7 @@ after-walk byte0 zero (h ∷ rest) r e m = go (λ n x. after-walk byte0 n rest r
     go ih true z x = by (sound byte0 h (length rest) (eqb-true _ _ z)) ih (lastOf h) refl x
 
 -- a command that may stand in a message is no response
-counted-asks : (k : Kind) (n : ℕ) → countOk k n ≡ true → asks k ≡ true
+pub counted-asks : (k : Kind) (n : ℕ) → countOk k n ≡ true → asks k ≡ true
 counted-asks Nop n e = refl
 counted-asks Write n e = refl
 counted-asks Reads n e = refl

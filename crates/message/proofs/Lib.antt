@@ -6,8 +6,9 @@ pub mod Back
 pub mod Exactly
 pub mod Standing
 pub mod Going
+pub mod Pieces
 pub mod Answers
 pub mod Judged
 pub mod Looking
-pub mod Worked
 pub mod Answering
+pub mod Worked

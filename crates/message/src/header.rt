@@ -26,7 +26,7 @@ pub fn tag(h: u32) -> u32
 }
 
 // The kind that a number of two bits names.
-fn kind_no(n: u32) -> Kind
+pub fn kind_no(n: u32) -> Kind
     ensures { λ r. ⌜ r ≡ kindNo n ⌝ }
 {
     match n {

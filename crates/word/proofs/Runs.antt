@@ -1,13 +1,13 @@
 -- Runs in lists: what `put` makes of nothing, of a store, of a run behind a run. The proofs of `run`, and whoever writes an
 -- answer or a request piece by piece, cite these. Assumes nothing.
-use Prim.Native.Nat.{ℕ, zero, suc, _+_, _*_, _-_, _≤_, _<_}
+use Prim.Native.Nat.{ℕ, zero, suc, _+_, _*_, _/_, _%_, _-_, _≤_, _<_}
 use mathlib.Core.Path.{_≡_, refl, sym, ap, _∙_}
 use mathlib.Core.List.{List, [], _∷_, _++_, append-assoc, append-nil}
 use native.Mathlib.Omega.{arith}
 use native.Mathlib.Numerals.{add-one}
 use native.Mathlib.Nat.{add-zero}
 use lib.ListN.{length, take, drop, getD, set, length-append, length-drop, take-append-drop}
-use lib.Seq.{set-split, take-suc, take-at, drop-append-add, drop-drop, length-take-le, take-length}
+use lib.Seq.{set-split, take-suc, take-at, drop-at, getD-at, set-at, drop-append-add, drop-drop, length-take-le, take-length}
 use Rattle.word.specs.Words.{bytesOf, Below, put, putWords}
 
 -- nothing put
@@ -62,6 +62,10 @@ module _ (l : List ℕ) (at : ℕ) (s : List ℕ) (i : ℕ) (h : i < length s) (
       put-one (put l at (take i s)) (at + i) (getD s i 0) (omega arith) ∙ put-next
 
 -- bytes of words
+pub bytes-none : bytesOf [] ≡ []
+unfolding bytesOf
+bytes-none = refl
+
 pub bytes-append : (a b : List ℕ) → bytesOf (a ++ b) ≡ bytesOf a ++ bytesOf b
 unfolding bytesOf
 bytes-append [] b = refl
@@ -88,6 +92,40 @@ words-words l at ws vs h =
     let n = length-bytes ws in
     let e : 4 * (at + length ws) ≡ 4 * at + length (bytesOf ws) = omega arith in
     rw (e, bytes-append) (put-put l (4 * at) (bytesOf ws) (bytesOf vs) (omega (arith, length-bytes vs)))
+
+-- words put at the front stand there, and what lies behind them is as it was
+pub words-front : (l ws : List ℕ) → take (4 * length ws) (putWords l 0 ws) ≡ bytesOf ws
+unfolding putWords put
+words-front l ws = take-at (bytesOf ws) (drop (4 * 0 + length (bytesOf ws)) l) (4 * length ws) (length-bytes ws)
+
+pub words-behind : (l ws : List ℕ) → drop (4 * length ws) (putWords l 0 ws) ≡ drop (4 * length ws) l
+unfolding putWords put
+words-behind l ws =
+    let n : 4 * 0 + length (bytesOf ws) ≡ 4 * length ws = omega (arith, length-bytes ws) in
+    rw n (drop-at (bytesOf ws) (drop (4 * length ws) l) (4 * length ws) (length-bytes ws))
+
+-- the highest bit of a word that was put is the highest bit of its fourth byte
+high-bytes : (w : ℕ) → w < 2147483648
+    → ((w + 2147483648) % 256 ≡ w % 256) × ((w + 2147483648) / 256 % 256 ≡ w / 256 % 256) × ((w + 2147483648) / 65536 % 256 ≡ w / 65536 % 256)
+    × ((w + 2147483648) / 16777216 % 256 ≡ w / 16777216 % 256 % 128 + 128)
+high-bytes w h = (omega arith, omega arith, omega arith, omega arith)
+
+module _ (l : List ℕ) (at w : ℕ) (ws : List ℕ) (low : w < 2147483648) (fits : 4 * (at + (1 + length ws)) ≤ length l) where
+  pub put-high : put (putWords l at (w ∷ ws)) (4 * at + 3) ((getD (putWords l at (w ∷ ws)) (4 * at + 3) 0 % 128 + 128) ∷ []) ≡ putWords l at ((w + 2147483648) ∷ ws)
+  unfolding putWords put bytesOf
+  put-high =
+      let n = length-bytes ws in
+      let three : List ℕ = w % 256 ∷ w / 256 % 256 ∷ w / 65536 % 256 ∷ [] in
+      let p : List ℕ = take (4 * at) l ++ three in
+      let y : ℕ = w / 16777216 % 256 in
+      let rest : List ℕ = bytesOf ws ++ drop (4 * at + length (bytesOf (w ∷ ws))) l in
+      let lp : length p ≡ 4 * at + 3 = length-append (take (4 * at) l) three ∙ omega (arith, length-take-le (4 * at) l (omega arith)) in
+      let split : putWords l at (w ∷ ws) ≡ p ++ y ∷ rest = sym (append-assoc (take (4 * at) l) three (y ∷ rest)) in
+      let t = high-bytes w low in
+      let v : ℕ = y % 128 + 128 in
+      let stored : put (p ++ y ∷ rest) (4 * at + 3) (v ∷ []) ≡ p ++ v ∷ rest =
+          sym (put-one (p ++ y ∷ rest) (4 * at + 3) v (rw (length-append p (y ∷ rest)) (omega arith))) ∙ set-at p y rest v (4 * at + 3) lp in
+      rw (split, getD-at p y rest 0 (4 * at + 3) lp, stored, t .0, t .1, t .2, t .3) (append-assoc (take (4 * at) l) three (v ∷ rest))
 
 pub words-next : (l : List ℕ) (at : ℕ) (s : List ℕ) (i : ℕ) → i < length s → 4 * (at + i) + 4 ≤ length l
     → putWords (putWords l at (take i s)) (at + i) (getD s i 0 ∷ []) ≡ putWords l at (take (i + 1) s)

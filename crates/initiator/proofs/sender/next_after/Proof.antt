@@ -1,0 +1,20 @@
+-- `initiator::sender::next_after` meets its contract: by its range. Assumes nothing.
+use Rattle.word.proofs.Rules.{tests}
+use Rattle.initiator.specs.Sender.{nextAfter}
+use borrow.Author.Needs.{needs}
+use Rattle.initiator.proofs.sender.next_after.Statement.{statement}
+use Rattle.initiator.proofs.sender.next_after.Tie as tie
+
+add-result : tie.Need-add-result
+add-result c = search needs
+
+returns : tie.Need-returns
+unfolding nextAfter
+returns c = search tests
+
+returns-2 : tie.Need-returns-2
+unfolding nextAfter
+returns-2 c = search tests
+
+pub next-after-spec : {M : Type 1} → statement M
+next-after-spec = tie.close (tie.spec add-result returns returns-2)

@@ -1,0 +1,35 @@
+-- `initiator::sender::send_fault` meets its contract: each check is a line of `sendFault`. Assumes nothing.
+use borrow.Author.Tests.{lt-ltb, le-ltb, not-true, not-false}
+use Rattle.word.proofs.Rules.{flag-on, flag-off}
+use Rattle.initiator.specs.Sender.{sendFault}
+use borrow.Author.Needs.{needs}
+use Rattle.initiator.proofs.sender.send_fault.Statement.{statement}
+use Rattle.initiator.proofs.sender.send_fault.Tie as tie
+
+returns : tie.Need-returns
+unfolding sendFault
+returns c = simp (le-ltb _ _ (c .if1 .taken))
+
+returns-2 : tie.Need-returns-2
+unfolding sendFault
+returns-2 c = simp (lt-ltb _ _ (c .before .before .if1 .left), not-true (c .before .before .before .before .before .args .sender .waits) (c .if2 .taken))
+
+asks-as-requires : tie.Need-asks-as-requires
+asks-as-requires c κs = search needs
+
+returns-3 : tie.Need-returns-3
+unfolding sendFault
+returns-3 c =
+    let e = c .before .before in
+    let waits = not-false (e .before .before .before .before .before .args .sender .waits) (e .if2 .left) in
+    simp (lt-ltb _ _ (e .before .before .if1 .left), waits, flag-off (c .before .asks-as .ensures) (c .if3 .taken))
+
+returns-4 : tie.Need-returns-4
+unfolding sendFault
+returns-4 c =
+    let e = c .before .before in
+    let waits = not-false (e .before .before .before .before .before .args .sender .waits) (e .if2 .left) in
+    simp (lt-ltb _ _ (e .before .before .if1 .left), waits, flag-on (c .before .asks-as .ensures) (c .if3 .left))
+
+pub send-fault-spec : {M : Type 1} → statement M
+send-fault-spec = tie.close (tie.spec returns returns-2 asks-as-requires returns-3 returns-4)

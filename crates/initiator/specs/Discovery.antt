@@ -1,0 +1,39 @@
+-- The fixed discovery, and that building it gives it. Assumes nothing.
+use Prim.Native.Nat.{ℕ, _≤_}
+use mathlib.Core.Path.{_≡_}
+use mathlib.Core.Bool.{true, false}
+use mathlib.Core.List.{List, [], _∷_}
+use lib.ListN.{length}
+use Rattle.word.specs.Words.{bytesOf}
+use Rattle.message.specs.Limits.{limitBytes}
+use Rattle.message.specs.Walk.{refusal}
+use Rattle.initiator.specs.declared.building.Building.{Building}
+use Rattle.initiator.specs.declared.asked.Asked.{Asked}
+use Rattle.initiator.specs.Build.{begun, added, addedTo, closed, closedTo}
+use Rattle.initiator.specs.Reach.{Lent}
+use Rattle.initiator.specs.Sequence.{sent}
+
+-- its data: the most bytes of a message, and 0
+abbrev pub discoveryData : List ℕ
+discoveryData = limitBytes ∷ 0 ∷ []
+
+-- "the fixed discovery 80020080 000005C0 00000000"
+unfoldable pub discoveryBytes : List ℕ
+discoveryBytes = bytesOf (2147614848 ∷ discoveryData)
+
+-- a NOP of tag 0 with the discovery bit, begun, and its data added; what a NOP has no use for is free
+abbrev pub discoveryBegun : List ℕ → Building
+discoveryBegun out = begun (length out) 0 0 false true .building
+
+abbrev pub discoveryAdded : List ℕ → Asked → Building
+discoveryAdded out asked = added out (discoveryBegun out) asked discoveryData .building
+
+abbrev pub discoveryOut : List ℕ → Asked → List ℕ
+discoveryOut out asked = addedTo out (discoveryBegun out) asked discoveryData
+
+-- closed, it is the fixed discovery
+abbrev pub DiscoveryIsBuilt : Type 0
+DiscoveryIsBuilt =
+    (out : List ℕ) (asked : Asked) → limitBytes ≤ length out → Lent asked discoveryData
+    → (closed (discoveryOut out asked) (discoveryAdded out asked) .refusal ≡ refusal 0)
+    × (sent (closed (discoveryOut out asked) (discoveryAdded out asked) .building) (closedTo (discoveryOut out asked) (discoveryAdded out asked)) ≡ discoveryBytes)

@@ -1,0 +1,24 @@
+// The fixed discovery.
+ghost use mathlib.Core.Path.{_≡_};
+ghost use Rattle.initiator.specs.Discovery.{discoveryBytes};
+
+// Its bytes: 80020080, the most bytes of a message, 0.
+pub fn bytes() -> [u8; 12]
+    ensures { λ r. ⌜ r ≡ discoveryBytes ⌝ }
+{
+    let most = message::LIMIT_BYTES;
+    [
+        128,
+        0,
+        2,
+        128,
+        (most % 256) as u8,
+        (most / 256 % 256) as u8,
+        (most / 65536 % 256) as u8,
+        (most / 16777216 % 256) as u8,
+        0,
+        0,
+        0,
+        0,
+    ]
+}

@@ -1,0 +1,247 @@
+// The sender: it holds at most one message waiting, which stays lent to it and may be sent any number of times, until an accepted
+// answer ends it. Every call takes any record, any message, any answer, and refuses by number.
+ghost use mathlib.Core.Path.{_≡_};
+ghost use Prim.Native.Nat.{_<_};
+ghost use Rattle.message.specs.Walk.{refusal};
+ghost use Rattle.message.specs.Request.{read};
+ghost use Rattle.initiator.specs.Sender.{freshSender, asksAs, offerFault, sendFault, offerOf, sendOf, takeOf, spoiled, wordOk, nextAfter, startedAt, startOf};
+use crate::outcome;
+use crate::outcome::REQUEST;
+use message::answer;
+use message::answer::Look;
+use message::answer::Status;
+use message::header;
+use message::header::Kind;
+use message::refusal::Refusal;
+use message::walk::Walked;
+
+// The next tag, and whether a message waits.
+#[repr(C)]
+pub struct Sender {
+    pub next: u32,
+    pub waits: bool,
+}
+
+// What a call came to: its refusal (number 0: none), and the sender then.
+#[repr(C)]
+pub struct Moved {
+    pub refusal: Refusal,
+    pub sender: Sender,
+}
+
+// Sending or taking an answer while none waits.
+pub const NONE_WAITS: u32 = 30;
+// Offering while one waits.
+pub const ONE_WAITS: u32 = 36;
+// The sender record's next tag is over 15.
+pub const RECORD: u32 = 37;
+// The discovery's status is not OK, or its word 1 is no stored tag.
+pub const DISCOVERY: u32 = 38;
+
+impl Sender {
+    // The sender of a fresh pair.
+    pub fn fresh() -> Self
+        ensures { λ r. ⌜ r ≡ freshSender ⌝ }
+    {
+        Sender {
+            next: 0,
+            waits: false,
+        }
+    }
+
+    // The sender that the answer to the fixed discovery makes: refused by 32 to 35, then 38, with a sender that 37 stops.
+    pub fn discovered(answer: &[u8]) -> Moved
+        ensures { λ r. ⌜ r ≡ startOf (now (answer .entry)) ⌝ }
+    {
+        let byte0 = header::byte0_from(0, Kind::Nop, false, true);
+        if !message::walk::length_ok(answer.len()) {
+            return spoilt(Refusal {
+                number: Refusal::ANSWER_LENGTH,
+            });
+        }
+        if wide(answer[0]) != answer::answer_byte(byte0) {
+            return spoilt(Refusal {
+                number: Refusal::ANSWER_BYTE0,
+            });
+        }
+        let look = answer::look_at(byte0, 2, true, answer, 0);
+        let Look::Item(seen) = look else {
+            return spoilt(outcome::refusal_of(look));
+        };
+        let status = seen.status;
+        match status {
+            Status::Ok => started(word::word_at(answer, 2)),
+            Status::Timeout => spoilt(Refusal { number: DISCOVERY }),
+            Status::Error => spoilt(Refusal { number: DISCOVERY }),
+        }
+    }
+}
+
+// What a refused discovery hands back.
+fn spoilt(refusal: Refusal) -> Moved
+    ensures { λ r. ⌜ r ≡ spoiled refusal ⌝ }
+{
+    Moved {
+        refusal,
+        sender: Sender {
+            next: 16,
+            waits: false,
+        },
+    }
+}
+
+// Whether a word is advertisement word 1: a stored tag with bit 4 set, or 0 for none.
+fn word_ok(w: u32) -> bool
+    ensures { λ r. ⌜ r ≡ wordOk w ⌝ }
+{
+    match w {
+        0..=15 => w == 0,
+        _ => w < 32,
+    }
+}
+
+// The tag after the one that the word says, modulo 16; 0 where it says none.
+fn next_after(w: u32) -> u32
+    requires { ⌜ w < 32 ⌝ }
+    ensures { λ r. ⌜ r ≡ nextAfter w ⌝ }
+{
+    match w {
+        0..=15 => 0,
+        _ => (w + 1) % 16,
+    }
+}
+
+// The sender that advertisement word 1 makes, or 38.
+fn started(w: u32) -> Moved
+    ensures { λ r. ⌜ r ≡ startedAt w ⌝ }
+{
+    if !word_ok(w) {
+        return spoilt(Refusal { number: DISCOVERY });
+    }
+    Moved {
+        refusal: Refusal { number: 0 },
+        sender: Sender {
+            next: next_after(w),
+            waits: false,
+        },
+    }
+}
+
+// A byte as a number.
+fn wide(x: u8) -> u32
+    ensures { λ r. ⌜ (r ≡ x) × (r < 256) ⌝ }
+{
+    x as u32
+}
+
+// Whether a message may be offered or sent under this next tag: well-formed, no discovery, of this tag.
+fn asks_as(next: u32, message: &[u8]) -> bool
+    ensures { λ r. ⌜ r ≡ asksAs next (read (now (message .entry))) ⌝ }
+{
+    let walked = message::walk::walk(message);
+    let Walked::WellFormed(_) = walked else {
+        return false;
+    };
+    let byte0 = wide(message[0]);
+    if header::discovery(byte0) {
+        return false;
+    }
+    header::tag(byte0) == next
+}
+
+// The refusal of an offer, or 0.
+fn offer_fault(sender: Sender, message: &[u8]) -> u32
+    ensures { λ r. ⌜ r ≡ offerFault sender (now (message .entry)) ⌝ }
+{
+    if 16 <= sender.next {
+        return RECORD;
+    }
+    if sender.waits {
+        return ONE_WAITS;
+    }
+    if !asks_as(sender.next, message) {
+        return REQUEST;
+    }
+    0
+}
+
+// The refusal of a send, or 0; also of taking an answer, before the answer is looked at.
+fn send_fault(sender: Sender, message: &[u8]) -> u32
+    ensures { λ r. ⌜ r ≡ sendFault sender (now (message .entry)) ⌝ }
+{
+    if 16 <= sender.next {
+        return RECORD;
+    }
+    if !sender.waits {
+        return NONE_WAITS;
+    }
+    if !asks_as(sender.next, message) {
+        return REQUEST;
+    }
+    0
+}
+
+// Offers a message: 37, 36, 31. Accepted, it waits; refused, the sender is unchanged.
+pub fn offer(sender: Sender, message: &[u8]) -> Moved
+    ensures { λ r. ⌜ r ≡ offerOf sender (now (message .entry)) ⌝ }
+{
+    let number = offer_fault(sender, message);
+    if number != 0 {
+        return Moved {
+            refusal: Refusal { number },
+            sender,
+        };
+    }
+    Moved {
+        refusal: Refusal { number: 0 },
+        sender: Sender {
+            next: sender.next,
+            waits: true,
+        },
+    }
+}
+
+// The refusal of sending this message: 37, 30, 31, or none (number 0).
+pub fn send_refusal(sender: Sender, message: &[u8]) -> Refusal
+    ensures { λ r. ⌜ r ≡ refusal (sendFault sender (now (message .entry))) ⌝ }
+{
+    let number = send_fault(sender, message);
+    Refusal { number }
+}
+
+// The bytes to send: the lent message's own, or an empty part where sending it is refused.
+pub fn send<'a>(sender: Sender, message: &'a [u8]) -> &'a [u8]
+    ensures { λ r. ⌜ now r ≡ sendOf sender (now (message .entry)) ⌝ }
+{
+    let number = send_fault(sender, message);
+    if number != 0 {
+        return &message[..0];
+    }
+    message
+}
+
+// Takes an answer to the waiting message: 37, 30, 31, 32 to 35. Accepted, it ends the message, and the next tag is one more, modulo
+// 16; refused, the sender is unchanged.
+pub fn take(sender: Sender, message: &[u8], answer: &[u8]) -> Moved
+    ensures { λ r. ⌜ r ≡ takeOf sender (now (message .entry)) (now (answer .entry)) ⌝ }
+{
+    let number = send_fault(sender, message);
+    if number != 0 {
+        return Moved {
+            refusal: Refusal { number },
+            sender,
+        };
+    }
+    let told = outcome::told(message, answer, 0);
+    let refusal = told.refusal;
+    if refusal.number != 0 {
+        return Moved { refusal, sender };
+    }
+    Moved {
+        refusal,
+        sender: Sender {
+            next: (sender.next + 1) % 16,
+            waits: false,
+        },
+    }
+}
