@@ -10,3 +10,4 @@ pub mod Told
 pub mod Parts
 pub mod Sending
 pub mod Starting
+pub mod Promised

@@ -24,7 +24,7 @@ use Rattle.initiator.specs.Building.{startOk, byteOf, freshOk, someOk, r
 use Rattle.initiator.specs.Asked.{countBy, countFits, fieldsOk, enablesFit, addressFits, narrowOk, sizeBy, replyBy, roomFits, commandFault}
 use Rattle.initiator.specs.Build.{gives, longOk, opened, begun, usable, addFault, closeFault, grown, shut, added, closed}
 use Rattle.initiator.specs.Reach.{Lent, Reached, begins, adds, closes, ReachedExactly}
-use Rattle.initiator.proofs.Passed.{both, and-on, some-is, reached-some, bounded, Adds, Fitting, Closes} 
+use Rattle.initiator.proofs.Passed.{both, and-on, some-is, reached-some, bounded, Adds, Fitting, Closes}
 use Rattle.initiator.proofs.Passed as passed
 use Rattle.initiator.proofs.Shapes.{size, reply, Allowed, Steps, start, more, Some, None, Open, on-some, back, shape-ok, ok-shape}
 
@@ -51,7 +51,7 @@ numbers-some b s =
       one = s .answered;
       few = s .answer;
       less = s .last;
-      shape = ok-shape (kindOf (byteOf b)) (wideOf (byteOf b)) (b .words) (b .last) (b .answer) (s .shape) (s .answered) (s .last) (s .words)
+      shape = ok-shape (kindOf (byteOf b)) (wideOf (byteOf b)) (b .words) (b .last) (b .answer) (s .shape) (s .answered) (s .last) (s .words);
     }
 
 numbers : (b : Building) → reachable b ≡ true → Numbers b
@@ -187,8 +187,14 @@ plain-fault : (byte0 w n count : ℕ) → Allowed (kindOf byte0) count → w + s
     → commandFault byte0 w n (plain count) count ≡ 0
 unfolding commandFault countFits roomFits sizeBy replyBy
 plain-fault byte0 w n count d p q =
-    rw (lt-ltb _ _ (twelve (kindOf byte0) (wideOf byte0) w n count d p q), allowed-ok (kindOf byte0) count d, plain-enables (kindOf byte0) count,
-        plain-address (kindOf byte0) (wideOf byte0), le-leb _ _ p, le-leb _ _ q)
+    rw (
+      lt-ltb _ _ (twelve (kindOf byte0) (wideOf byte0) w n count d p q),
+      allowed-ok (kindOf byte0) count d,
+      plain-enables (kindOf byte0) count,
+      plain-address (kindOf byte0) (wideOf byte0),
+      le-leb _ _ p,
+      le-leb _ _ q,
+    )
 
 -- from the numbers to the calls
 module _ (out : List ℕ) (long : longOk (length out) ≡ true) (kind tag : ℕ) (wide discovery : Bool) (ok : startOk kind tag ≡ true) where

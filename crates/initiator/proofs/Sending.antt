@@ -45,7 +45,7 @@ unfolding sendFault
 send-next s message e = ltb-true _ _ (passed (ltb (s .next) 16) 37 _ (omega arith) e .0)
 
 -- an answer is taken exactly if it tells no refusal
-answer-some : (p : Reading Request) (answer : List ℕ) → Some (answerTo p answer)
+pub answer-some : (p : Reading Request) (answer : List ℕ) → Some (answerTo p answer)
 unfolding answerTo
 answer-some (Wrong r) answer = omega arith
 answer-some (Means r) answer = go (discoveryOf (r .byte0))

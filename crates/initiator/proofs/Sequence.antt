@@ -96,7 +96,7 @@ command-fits byte0 w n asked payload l f =
       enabled = e .1;
       reaches = address-top (kindOf byte0) (wideOf byte0) (asked .address) _ refl (sent-lt (kindOf byte0) (asked .address) (l .address)) (f .reaches);
       long = carried-long (kindOf byte0) (asked .count) payload;
-      words = carried-words (kindOf byte0) payload (l .words)
+      words = carried-words (kindOf byte0) payload (l .words);
     }
 
 -- what holds after each call: the commands' words stand first, and the record counts them
@@ -128,7 +128,7 @@ stands-first start kind tag wide discovery e = go (longOk (length start) && star
           answer = sym (replies-none (byteOf b));
           most = omega arith;
           few = omega arith;
-          is = rw (open-none (byteOf b)) (sym (words-none start 0))
+          is = rw (open-none (byteOf b)) (sym (words-none start 0));
         }
     go false z e = absurd (omega (arith, unrefused e))
 
@@ -222,7 +222,7 @@ module _ {start : List ℕ} {cs : List Command} {b : Building} {out : List ℕ} 
         answer = more-answer;
         most = a .fits .short;
         few = a .fits .few;
-        is = more-run false ∙ ap (putWords start 0) (sym (open-more byte0 cs c))
+        is = more-run false ∙ ap (putWords start 0) (sym (open-more byte0 cs c));
       })
 
   abbrev made : Request
@@ -239,9 +239,9 @@ module _ {start : List ℕ} {cs : List Command} {b : Building} {out : List ℕ} 
           asking = counted-asks (kindOf byte0) _ (a .fits .counted);
           some = none-more cs c;
           all = all-more (FitsCommand byte0) cs c (s .all) (more-fits);
-          short = omega (arith, made-words, a .fits .short)
+          short = omega (arith, made-words, a .fits .short);
         };
-        answer = omega (arith, more-answer, a .fits .few)
+        answer = omega (arith, more-answer, a .fits .few);
       }
 
   made-bytes : lastSet (putWords out (b .words) (commandWords byte0 false c)) (b .words) ≡ putWords start 0 (requestWords byte0 cs')
@@ -264,7 +264,7 @@ module _ {start : List ℕ} {cs : List Command} {b : Building} {out : List ℕ} 
         bytes = f;
         accepted = rw f (read-written made made-fits);
         answer = rw (k .building, p) more-answer;
-        kept = rw (w, o) (words-behind start (requestWords byte0 cs'))
+        kept = rw (w, o) (words-behind start (requestWords byte0 cs'));
       })
 
 stands : {start : List ℕ} {cs : List Command} {b : Building} {out : List ℕ} → Adding start cs b out → Stands start cs b out

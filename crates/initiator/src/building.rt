@@ -121,7 +121,13 @@ fn some_ok(b: Building) -> bool
         return false;
     }
     let byte0 = byte0_of(b);
-    shape_ok(header::kind_of(byte0), header::address_words(byte0), b.words, b.last, b.answer)
+    shape_ok(
+        header::kind_of(byte0),
+        header::address_words(byte0),
+        b.words,
+        b.last,
+        b.answer,
+    )
 }
 
 // Whether some sequence of calls gives this record.

@@ -11,7 +11,8 @@ use Rattle.message.specs.declared.answer.Status.the-variants.{Ok, Timeou
 use Rattle.message.specs.Header.{tagOf, wideOf, discoveryOf, kindOf, byte0Of, byte1Of, countOf, reservedOf, lastOf, byte0From, replyWords}
 use Rattle.message.specs.Walk.{endsOk, unless}
 use Rattle.message.specs.Answer.{codeOf, statusNo, answerByte, wanted, stops, answerFault}
-use Rattle.message.proofs.Headers.{byte0-lt, reply-le}
+use Rattle.message.specs.declared.header.Kind.the-variants.{Response}
+use Rattle.message.proofs.Headers.{tag-back, discovery-back, byte0-lt, reply-le}
 use Rattle.message.proofs.Faults.{passed}
 
 -- a status is what its code names, and the other way
@@ -43,6 +44,15 @@ code-lt Error = omega arith
 pub answer-lt : (byte0 : ℕ) → answerByte byte0 < 256
 unfolding answerByte
 answer-lt byte0 = byte0-lt (tagOf byte0) _ (wideOf byte0) (discoveryOf byte0) (omega arith)
+
+-- it keeps tag, width and discovery
+pub answer-tag : (byte0 : ℕ) → tagOf (answerByte byte0) ≡ tagOf byte0
+unfolding answerByte
+answer-tag byte0 = tag-back (tagOf byte0) Response (wideOf byte0) (discoveryOf byte0) (omega arith)
+
+pub answer-discovery : (byte0 : ℕ) → discoveryOf (answerByte byte0) ≡ discoveryOf byte0
+unfolding answerByte
+answer-discovery byte0 = discovery-back (tagOf byte0) Response (wideOf byte0) (discoveryOf byte0) (omega arith)
 
 pub wanted-le : (byte0 count : ℕ) (s : Status) → wanted byte0 count s ≤ count
 wanted-le byte0 count Ok = reply-le (kindOf byte0) count

@@ -20,6 +20,7 @@ use Rattle.message.specs.Header.{countOf, lastOf, byte1Of}
 use Rattle.message.specs.Walk.{refusal}
 use Rattle.message.specs.Request.{Command, Request, Reading, Wrong, Means, before, lengthOk, none}
 use Rattle.message.specs.Answer.{Answered, statusNo, answerByte, wanted, stops, answerFault, seenOf, lookOn, lookAt, lookTurn, answersFrom, judge}
+use Rattle.message.proofs.Faults.{past}
 use Rattle.message.proofs.Answers.{Fair, fair}
 
 -- a look whose words behind it answer the same
@@ -126,3 +127,8 @@ unfolding judge
 judge-some r dg =
     some-unless (lengthOk (length dg)) 32 _ (omega arith)
     (some-unless (eqb (getD dg 0 0) (answerByte (r .byte0))) 33 _ (omega arith) (answers-some (r .byte0) (r .commands) (wordsOf dg)))
+
+-- an accepted answer's first byte is the request's with the kind made 3
+pub judge-first : (r : Request) (dg : List ℕ) (items : List Answered) → judge r dg ≡ Means items → getD dg 0 0 ≡ answerByte (r .byte0)
+unfolding judge
+judge-first r dg items m = eqb-true _ _ (past (eqb (getD dg 0 0) (answerByte (r .byte0))) _ _ (past (lengthOk (length dg)) _ _ m .1) .0)
