@@ -45,6 +45,21 @@ fn sends(label: &[u8], s: Sender, message: &[u8]) {
     say(b"\n");
 }
 
+fn wide(x: u8) -> u64 {
+    x as u64
+}
+
+// The bytes of a part, to the end of the line.
+fn show(part: &[u8]) {
+    let mut i = 0;
+    while i < part.len() {
+        say(b" ");
+        io::print_hex(STDOUT_FILENO, wide(part[i]), 2);
+        i += 1;
+    }
+    say(b"\n");
+}
+
 // A line for command k: how it ended, and its read data.
 fn command(request: &[u8], answer: &[u8], k: usize) {
     number(b"command ", k as u64);
@@ -56,14 +71,7 @@ fn command(request: &[u8], answer: &[u8], k: usize) {
     let span = outcome::read_span(request, answer, k);
     number(b", data from ", span.start as u64);
     number(b" to ", span.end as u64);
-    let data = outcome::read_data(request, answer, k);
-    let mut i = 0;
-    while i < data.len() {
-        say(b" ");
-        io::print_hex(STDOUT_FILENO, data[i] as u64, 2);
-        i += 1;
-    }
-    say(b"\n");
+    show(outcome::read_data(request, answer, k));
 }
 
 // Offers that are refused, and one that is not.
