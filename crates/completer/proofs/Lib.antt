@@ -5,3 +5,4 @@ pub mod Promised
 pub mod Putting
 pub mod OneCommand
 pub mod Underway
+pub mod Verdicts

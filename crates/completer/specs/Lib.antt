@@ -3,3 +3,5 @@ pub mod Moves
 pub mod Answers
 pub mod Carrying
 pub mod Promises
+pub mod Tags
+pub mod Serving

@@ -35,8 +35,8 @@ unfolding answersFrom lookAt
 looked byte0 c cs ws at = go (ltb at (length ws)) refl
   where
     go : (b : Bool) → ltb at (length ws) ≡ b
-       → answersFrom byte0 (c ∷ cs) (drop at ws)
-       ≡ lookTurn (cond b (lookOn byte0 (c .count) (none cs) (getD ws at 0) (length ws - at - 1)) (Bad (refusal 35))) (drop (at + 1) ws) (λ n. answersFrom byte0 cs (drop (at + 1 + n) ws))
+        → answersFrom byte0 (c ∷ cs) (drop at ws)
+        ≡ lookTurn (cond b (lookOn byte0 (c .count) (none cs) (getD ws at 0) (length ws - at - 1)) (Bad (refusal 35))) (drop (at + 1) ws) (λ n. answersFrom byte0 cs (drop (at + 1 + n) ws))
     go false z = rw (drop-of-length-le ws (ltb-false at (length ws) z))
     go true z =
         let l = ltb-true at (length ws) z in
@@ -63,8 +63,8 @@ unfolding lookAt lookOn seenOf
 found byte0 count last ws at s e = go (ltb at (length ws)) refl (eqb (answerFault byte0 count last (getD ws at 0) (length ws - at - 1)) 0) refl e
   where
     go : (a : Bool) → ltb at (length ws) ≡ a → (b : Bool) → eqb (answerFault byte0 count last (getD ws at 0) (length ws - at - 1)) 0 ≡ b
-       → cond a (cond b (Item (seenOf (getD ws at 0))) (Bad (refusal (answerFault byte0 count last (getD ws at 0) (length ws - at - 1))))) (Bad (refusal 35)) ≡ Item s
-       → Found ws at last s
+        → cond a (cond b (Item (seenOf (getD ws at 0))) (Bad (refusal (answerFault byte0 count last (getD ws at 0) (length ws - at - 1))))) (Bad (refusal 35)) ≡ Item s
+        → Found ws at last s
     go false z b y e = let n : _≡_ {A = ℕ} 0 1 = cc in absurd (omega arith)
     go true z false y e = let n : _≡_ {A = ℕ} 0 1 = cc in absurd (omega arith)
     go true z true y e =
@@ -79,7 +79,7 @@ found byte0 count last ws at s e = go (ltb at (length ws)) refl (eqb (answerFaul
           within = w;
           small = omega arith;
           long = length-take-le (s .count) (drop (at + 1) ws) (rw length-drop (omega arith));
-          more = λ x. stops-more (statusNo (byte1Of (getD ws at 0))) last (sym (f .stopped) ∙ q ∙ x)
+          more = λ x. stops-more (statusNo (byte1Of (getD ws at 0))) last (sym (f .stopped) ∙ q ∙ x);
         }
 
 -- a judged answer by its length and its byte 0
