@@ -6,3 +6,6 @@ pub mod Putting
 pub mod OneCommand
 pub mod Underway
 pub mod Verdicts
+pub mod Benched
+pub mod Calls
+pub mod Discovered

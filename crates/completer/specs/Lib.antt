@@ -5,3 +5,5 @@ pub mod Carrying
 pub mod Promises
 pub mod Tags
 pub mod Serving
+pub mod BenchSheet
+pub mod Called

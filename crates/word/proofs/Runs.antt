@@ -49,6 +49,11 @@ staged l s n h e = rw e (take-at (take n s) (drop (0 + length (take n s)) l) n (
 pub staged-all : (l s : List ℕ) {t : List ℕ} → t ≡ put l 0 (take (length s) s) → take (length s) t ≡ s
 staged-all l s e = staged l s (length s) (omega arith) e ∙ take-length s
 
+-- and so is a whole run
+pub put-front : (l s : List ℕ) → take (length s) (put l 0 s) ≡ s
+unfolding put
+put-front l s = take-at s (drop (0 + length s) l) (length s) refl
+
 -- a turn of a loop that puts the elements of s one by one
 module _ (l : List ℕ) (at : ℕ) (s : List ℕ) (i : ℕ) (h : i < length s) (k : at + i < length l) where
   pub put-next : put (put l at (take i s)) (at + i) (getD s i 0 ∷ []) ≡ put l at (take (i + 1) s)
@@ -88,6 +93,10 @@ words-words l at ws vs h =
     let n = length-bytes ws in
     let e : 4 * (at + length ws) ≡ 4 * at + length (bytesOf ws) = omega arith in
     rw (e, bytes-append) (put-put l (4 * at) (bytesOf ws) (bytesOf vs) (omega (arith, length-bytes vs)))
+
+pub words-front : (l ws : List ℕ) → take (4 * length ws) (putWords l 0 ws) ≡ bytesOf ws
+unfolding putWords
+words-front l ws = rw (← length-bytes ws) (put-front l (bytesOf ws))
 
 pub words-next : (l : List ℕ) (at : ℕ) (s : List ℕ) (i : ℕ) → i < length s → 4 * (at + i) + 4 ≤ length l
     → putWords (putWords l at (take i s)) (at + i) (getD s i 0 ∷ []) ≡ putWords l at (take (i + 1) s)
