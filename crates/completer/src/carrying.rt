@@ -220,7 +220,7 @@ fn carry_one(
 
 // An accepted message, whose byte 0 is this: each command in order, up to the last or the first that fails. `mark` is word 1 of the
 // advertisement. The answer's words are counted, and stand at the front of the output and, if `keep`, of the stored words.
-pub fn carry(
+pub(crate) fn carry(
     memory: &mut [u32],
     stored: &mut [u32],
     output: &mut [u8],

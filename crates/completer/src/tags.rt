@@ -33,7 +33,7 @@ impl TagRecord {
 }
 
 // Whether a tag is the stored one.
-pub fn repeats(tags: TagRecord, tag: u32) -> bool
+pub(crate) fn repeats(tags: TagRecord, tag: u32) -> bool
     ensures { λ r. ⌜ r ≡ repeats tags tag ⌝ }
 {
     if tags.fresh {
@@ -43,7 +43,7 @@ pub fn repeats(tags: TagRecord, tag: u32) -> bool
 }
 
 // Whether a tag is new: any is for a fresh record, else the one after the stored one.
-pub fn expected(tags: TagRecord, tag: u32) -> bool
+pub(crate) fn expected(tags: TagRecord, tag: u32) -> bool
     requires { ⌜ recordOk tags ≡ true ⌝ }
     ensures { λ r. ⌜ r ≡ expected tags tag ⌝ }
 {
@@ -54,7 +54,7 @@ pub fn expected(tags: TagRecord, tag: u32) -> bool
 }
 
 // Word 1 of the advertisement.
-pub fn mark(tags: TagRecord) -> u32
+pub(crate) fn mark(tags: TagRecord) -> u32
     requires { ⌜ recordOk tags ≡ true ⌝ }
     ensures { λ r. ⌜ r ≡ markOf tags ⌝ }
 {
@@ -65,7 +65,7 @@ pub fn mark(tags: TagRecord) -> u32
 }
 
 // Check 1 of memory and output.
-pub fn lent_ok(memory: usize, output: usize) -> bool
+pub(crate) fn lent_ok(memory: usize, output: usize) -> bool
     ensures { λ r. ⌜ r ≡ lentOk memory output ⌝ }
 {
     if memory < 1 {
@@ -91,7 +91,7 @@ fn held_ok(tag: u32, words: usize) -> bool
 }
 
 // Check 1 of the record.
-pub fn record_ok(tags: TagRecord) -> bool
+pub(crate) fn record_ok(tags: TagRecord) -> bool
     ensures { λ r. ⌜ r ≡ recordOk tags ⌝ }
 {
     if tags.fresh {
@@ -101,7 +101,7 @@ pub fn record_ok(tags: TagRecord) -> bool
 }
 
 // Check 1 of the stored answer and the record.
-pub fn kept_ok(stored: usize, tags: TagRecord) -> bool
+pub(crate) fn kept_ok(stored: usize, tags: TagRecord) -> bool
     ensures { λ r. ⌜ r ≡ keptOk stored tags ⌝ }
 {
     if stored < TagRecord::WORDS {
