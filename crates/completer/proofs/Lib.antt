@@ -5,3 +5,7 @@ pub mod Promised
 pub mod Putting
 pub mod OneCommand
 pub mod Underway
+pub mod Verdicts
+pub mod Benched
+pub mod Calls
+pub mod Discovered
