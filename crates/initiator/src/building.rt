@@ -2,7 +2,6 @@
 ghost use mathlib.Core.Path.{_≡_};
 ghost use Prim.Native.Nat.{_<_, _≤_};
 ghost use Rattle.message.specs.Limits.{limit};
-ghost use Rattle.message.specs.Header.{kindOf, addressWords};
 ghost use Rattle.initiator.specs.Building.{startOk, byteOf, freshOk, nopsOk, writesOk, readsOk, shapeOk, someOk, reachable};
 use message::header;
 use message::header::Kind;
@@ -121,7 +120,13 @@ fn some_ok(b: Building) -> bool
         return false;
     }
     let byte0 = byte0_of(b);
-    shape_ok(header::kind_of(byte0), header::address_words(byte0), b.words, b.last, b.answer)
+    shape_ok(
+        header::kind_of(byte0),
+        header::address_words(byte0),
+        b.words,
+        b.last,
+        b.answer,
+    )
 }
 
 // Whether some sequence of calls gives this record.
