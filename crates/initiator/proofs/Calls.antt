@@ -1,22 +1,22 @@
 -- What the steps of `build::add` come to, from what each step ensures. The proofs of `build` cite these. Assumes nothing.
-use Prim.Native.Nat.{ℕ, zero, suc, _+_, _*_, _/_, _%_, _<_, _≤_}
+use Prim.Native.Nat.{ℕ, _+_, _*_, _/_, _%_, _<_, _≤_}
 use mathlib.Core.Path.{_≡_, refl, sym, ap, _∙_}
-use mathlib.Core.Bool.{Bool, true, false, not, cond}
+use mathlib.Core.Bool.{Bool, true, false, not}
 use mathlib.Core.List.{List, [], _∷_, _++_}
 use native.Mathlib.Omega.{arith}
 use borrow.Author.Tests.{ltb-true}
-use lib.ListN.{length, take, length-append}
+use lib.ListN.{length, take}
 use lib.Seq.{take-length, length-take-le}
 use Rattle.word.specs.Words.{putWords, longest}
 use Rattle.word.proofs.Rules.{eqb-on, eqb-off}
-use Rattle.word.proofs.Runs.{words-none, words-words, length-words}
+use Rattle.word.proofs.Runs.{words-none, words-words}
 use Rattle.message.specs.declared.header.Kind.{Kind}
 use Rattle.message.specs.declared.header.Kind.the-variants.{Nop, Write, Read, Response}
-use Rattle.message.specs.Limits.{limit, limitBytes}
-use Rattle.message.specs.Header.{kindOf, wideOf, bit, addressBy, addressWords, dataWords, headerFrom}
+use Rattle.message.specs.Limits.{limit}
+use Rattle.message.specs.Header.{kindOf, wideOf, addressBy, addressWords, dataWords, headerFrom}
 use Rattle.message.specs.Walk.{unless}
 use Rattle.message.specs.Request.{addressIn, addressTop, commandWords}
-use Rattle.message.proofs.Headers.{address-le, data-le}
+use Rattle.message.proofs.Headers.{data-le}
 use Rattle.message.proofs.Round.{address-long}
 use Rattle.message.proofs.Pieces.{address-none, address-one, address-two, top-none, top-one, top-two, command-pieces}
 use Rattle.initiator.specs.declared.building.Building.{Building}
@@ -25,7 +25,7 @@ use Rattle.initiator.specs.Building.{byteOf}
 use Rattle.initiator.specs.Asked.{countBy, byte1By, addressSent, carriedBy, commandBy, enablesFit, addressFits, narrowOk, sizeBy, commandFault}
 use Rattle.initiator.specs.declared.build.Built.{Built}
 use Rattle.initiator.specs.Build.{gives, usable, addFault, closeFault, grown, shut, lastSet, added, addedTo, closed, closedTo}
-use Rattle.initiator.proofs.Passed.{Fitting, Bounded, Adds, adds}
+use Rattle.initiator.proofs.Passed.{Adds, adds}
 
 -- a check that passes
 unless-on : (ok : Bool) (n x : ℕ) → ok ≡ true → x ≡ unless ok n x

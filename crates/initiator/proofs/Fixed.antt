@@ -1,25 +1,25 @@
 -- Building the fixed discovery gives it: `discovery-is-built`, computed. Assumes nothing.
-use Prim.Native.Nat.{ℕ, _+_, _*_, _<_, _≤_}
-use mathlib.Core.Path.{_≡_, refl, sym, ap, _∙_}
-use mathlib.Core.Bool.{Bool, true, false, cond, _&&_}
+use Prim.Native.Nat.{ℕ, _≤_}
+use mathlib.Core.Path.{_≡_, refl, ap, _∙_}
+use mathlib.Core.Bool.{true, false}
 use mathlib.Core.List.{List, [], _∷_, _++_}
 use native.Mathlib.Omega.{arith}
-use borrow.Author.Tests.{le-leb, eq-eqb}
+use borrow.Author.Tests.{le-leb}
 use lib.ListN.{length}
-use Rattle.word.specs.Words.{bytesOf, putWords}
+use Rattle.word.specs.Words.{putWords}
 use Rattle.word.proofs.Runs.{length-words}
-use Rattle.message.specs.Limits.{limit, limitBytes}
+use Rattle.message.specs.Limits.{limitBytes}
 use Rattle.message.specs.Header.{kindNo, byte0From, headerFrom}
 use Rattle.message.specs.Walk.{refusal}
-use Rattle.message.specs.Request.{Command, Request, addressIn, commandWords, requestWords, written}
+use Rattle.message.specs.Request.{Command, addressIn, commandWords, requestWords, written}
 use Rattle.initiator.specs.declared.building.Building.{Building}
 use Rattle.initiator.specs.declared.asked.Asked.{Asked}
 use Rattle.initiator.specs.declared.build.Built.{Built}
 use Rattle.initiator.specs.Building.{startOk, byteOf, freshOk, nopsOk, someOk, reachable}
 use Rattle.initiator.specs.Asked.{commandBy, countFits, sizeBy, replyBy, roomFits, commandFault}
-use Rattle.initiator.specs.Build.{gives, longOk, opened, begun, addFault, closeFault, grown, added, addedTo, closed, closedTo}
+use Rattle.initiator.specs.Build.{gives, longOk, opened, begun, addFault, closeFault, grown, added, addedTo, closed}
 use Rattle.initiator.specs.Reach.{Lent}
-use Rattle.initiator.specs.Sequence.{Adding, begins, adds, sent, Holds}
+use Rattle.initiator.specs.Sequence.{Adding, begins, adds}
 use Rattle.initiator.specs.Discovery.{discoveryData, discoveryBytes, discoveryBegun, discoveryAdded, discoveryOut, DiscoveryIsBuilt}
 use Rattle.initiator.proofs.Sequence.{built-is-read}
 

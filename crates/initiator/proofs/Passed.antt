@@ -1,16 +1,17 @@
 -- What a record and a command that nothing is wrong with are like. The proofs of `build`, of reachability and of what is built
 -- cite these. Assumes nothing.
-use Prim.Native.Nat.{ℕ, zero, suc, _+_, _-_, _*_, _<_, _≤_}
-use mathlib.Core.Path.{_≡_, refl, sym, ap, _∙_}
+use Prim.Native.Nat.{ℕ, _+_, _<_, _≤_}
+use mathlib.Core.Path.{_≡_, refl, ap}
 use mathlib.Core.Bool.{Bool, true, false, not, cond, _&&_, false≢true}
 use native.Mathlib.Omega.{arith}
 use borrow.Author.Tests.{ltb-true, leb-true, eqb-true, eqb-false, ne-eqb, not-true}
-use lib.Dec.{ltb, leb, eqb}
+use lib.Dec.{eqb}
 use Rattle.message.specs.declared.header.Kind.{Kind}
-use Rattle.message.specs.declared.header.Kind.the-variants.{Nop, Write, Read, Response}
 use Rattle.message.specs.Limits.{limit, limitBytes}
 use Rattle.message.specs.Header.{kindOf, wideOf, addressWords}
-use Rattle.message.specs.Walk.{unless, countOk, patternOk}
+use Rattle.message.specs.declared.refusal.Refusal.{Refusal}
+use Rattle.message.specs.Walk.{refusal, countOk, patternOk}
+use Rattle.message.proofs.Faults.{passed}
 use Rattle.initiator.specs.declared.building.Building.{Building}
 use Rattle.initiator.specs.declared.asked.Asked.{Asked}
 use Rattle.initiator.specs.Building.{startOk, byteOf, freshOk, shapeOk, someOk, reachable}
@@ -22,14 +23,11 @@ pub both : (a b : Bool) → a && b ≡ true → (a ≡ true) × (b ≡ true)
 both true b e = (refl, e)
 both false b e = absurd (false≢true e)
 
-pub and-on : {a b : Bool} → a ≡ true → b ≡ true → a && b ≡ true
-and-on e f = rw (e, f)
+-- a call that was not refused
+pub unrefused : {n : ℕ} → refusal n ≡ refusal 0 → n ≡ 0
+unrefused e = ap (λ (r : Refusal). r .number) e
 
--- a check that gave no number
-pub passed : (ok : Bool) (n x : ℕ) → 0 < n → unless ok n x ≡ 0 → (ok ≡ true) × (x ≡ 0)
-passed true n x h e = (refl, e)
-passed false n x h e = absurd (omega arith)
-
+-- a number that is not 0
 pub off-zero : {n : ℕ} → eqb n 0 ≡ false → n ≡ 0 → ⊥
 off-zero {n} z e = eqb-false n 0 z e
 

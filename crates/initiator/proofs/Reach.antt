@@ -1,30 +1,29 @@
 -- A building record is given by some sequence of calls exactly if the formula that 21 tests holds: `reached-exactly`.
 -- Assumes nothing.
-use Prim.Native.Nat.{ℕ, zero, suc, _+_, _*_, _<_, _≤_}
-use mathlib.Core.Path.{_≡_, refl, sym, ap, _∙_}
+use Prim.Native.Nat.{ℕ, zero, suc, _+_, _<_, _≤_}
+use mathlib.Core.Path.{_≡_, refl, sym, ap}
 use mathlib.Core.Bool.{Bool, true, false, not, cond, _&&_, false≢true}
-use mathlib.Core.List.{List, [], _∷_}
+use mathlib.Core.List.{List}
 use native.Mathlib.Omega.{arith}
-use borrow.Author.Tests.{eqb-true, eqb-false, le-leb, lt-ltb, eq-eqb, ne-eqb, leb-true, not-true}
-use lib.Dec.{ltb, leb, eqb}
+use borrow.Author.Tests.{eqb-true, le-leb, lt-ltb, eq-eqb, ne-eqb, leb-true, not-true}
+use lib.Dec.{ltb, eqb}
 use lib.ListN.{length, getD, replicate, length-replicate}
 use Rattle.word.proofs.Runs.{below-all}
-use Rattle.word.specs.Words.{Words, Below}
+use Rattle.word.specs.Words.{Words}
 use Rattle.message.specs.declared.header.Kind.{Kind}
 use Rattle.message.specs.declared.header.Kind.the-variants.{Nop, Write, Read, Response}
-use Rattle.message.specs.declared.refusal.Refusal.{Refusal}
 use Rattle.message.specs.Limits.{limit, limitBytes}
-use Rattle.message.specs.Header.{kindOf, wideOf, addressWords}
-use Rattle.message.specs.Walk.{refusal, unless, countOk, patternOk}
+use Rattle.message.specs.Header.{kindOf, wideOf}
+use Rattle.message.specs.Walk.{refusal, countOk}
 use Rattle.message.proofs.Pieces.{wholeLast, some-pattern}
 use Rattle.initiator.specs.declared.building.Building.{Building}
 use Rattle.initiator.specs.declared.asked.Asked.{Asked}
 use Rattle.initiator.specs.declared.build.Built.{Built}
 use Rattle.initiator.specs.Building.{startOk, byteOf, freshOk, someOk, reachable}
 use Rattle.initiator.specs.Asked.{countBy, countFits, fieldsOk, enablesFit, addressFits, narrowOk, sizeBy, replyBy, roomFits, commandFault}
-use Rattle.initiator.specs.Build.{gives, longOk, opened, begun, usable, addFault, closeFault, grown, shut, added, closed}
-use Rattle.initiator.specs.Reach.{Lent, Reached, begins, adds, closes, ReachedExactly}
-use Rattle.initiator.proofs.Passed.{both, and-on, some-is, reached-some, bounded, Adds, Fitting, Closes}
+use Rattle.initiator.specs.Build.{gives, longOk, opened, begun, addFault, closeFault, grown, shut, added, closed}
+use Rattle.initiator.specs.Reach.{Reached, begins, adds, closes, ReachedExactly}
+use Rattle.initiator.proofs.Passed.{both, unrefused, reached-some, Adds, Closes}
 use Rattle.initiator.proofs.Passed as passed
 use Rattle.initiator.proofs.Shapes.{size, reply, Allowed, Steps, start, more, Some, None, Open, on-some, back, shape-ok, ok-shape}
 
@@ -88,9 +87,6 @@ unfolding shut byteOf
 shut-reachable room b c = some-reachable (shut b) (started b (c .reached)) (numbers-some b (c .some))
 
 -- each call keeps it
-unrefused : {n : ℕ} → refusal n ≡ refusal 0 → n ≡ 0
-unrefused e = ap (λ (r : Refusal). r .number) e
-
 begun-reachable : (room kind tag : ℕ) (wide discovery : Bool) → begun room kind tag wide discovery .refusal ≡ refusal 0
     → reachable (begun room kind tag wide discovery .building) ≡ true
 unfolding begun reachable opened freshOk

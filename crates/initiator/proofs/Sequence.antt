@@ -1,22 +1,20 @@
 -- What is built is what is read: `built-is-read` and `open-is-refused`. Assumes nothing.
-use Prim.Native.Nat.{ℕ, zero, suc, _+_, _*_, _/_, _%_, _<_, _≤_}
+use Prim.Native.Nat.{ℕ, _+_, _*_, _/_, _%_, _<_, _≤_}
 use mathlib.Core.Path.{_≡_, refl, sym, ap, _∙_}
-use mathlib.Core.Bool.{Bool, true, false, not, cond, _&&_}
+use mathlib.Core.Bool.{Bool, true, false, cond, _&&_}
 use mathlib.Core.List.{List, [], _∷_, _++_}
 use native.Mathlib.Omega.{arith}
 use borrow.Author.Tests.{eqb-true, leb-true}
 use lib.Dec.{eqb}
-use lib.ListN.{length, getD, take, drop, length-append}
-use lib.Seq.{length-take-le}
-use Rattle.word.specs.Words.{bytesOf, Words, put, putWords}
-use Rattle.word.proofs.Runs.{words-none, words-words, words-front, words-behind, length-words, put-high, below-take}
+use lib.ListN.{length, take, length-append}
+use Rattle.word.specs.Words.{bytesOf, Words, putWords}
+use Rattle.word.proofs.Runs.{words-none, words-words, words-front, words-behind, put-high, below-take}
 use Rattle.message.specs.declared.header.Kind.{Kind}
 use Rattle.message.specs.declared.header.Kind.the-variants.{Nop, Write, Read, Response}
-use Rattle.message.specs.declared.refusal.Refusal.{Refusal}
 use Rattle.message.specs.Limits.{limit, limitBytes}
-use Rattle.message.specs.Header.{kindOf, wideOf, addressWords, dataWords, replyWords, headerFrom}
-use Rattle.message.specs.Walk.{refusal, asks, enablesOk, patternOk}
-use Rattle.message.specs.Request.{Command, Request, Wrong, Means, read, written, replies, none, addressIn, commandWords, requestWords, All, FitsCommand, FitsAsked, Fits}
+use Rattle.message.specs.Header.{kindOf, wideOf, addressWords, dataWords, headerFrom}
+use Rattle.message.specs.Walk.{refusal, enablesOk}
+use Rattle.message.specs.Request.{Command, Request, written, replies, addressIn, commandWords, requestWords, All, FitsCommand, Fits}
 use Rattle.message.specs.Refusals.{openWords}
 use Rattle.message.proofs.Headers.{byte0-lt}
 use Rattle.message.proofs.Round.{read-written}
@@ -24,19 +22,14 @@ use Rattle.message.proofs.Exactly.{counted-asks}
 use Rattle.message.proofs.Pieces.{header-last, header-low, command-pieces, command-long, written-is, open-more, request-more, replies-more, all-more, all-none, none-more, open-none, replies-none, open-refused}
 use Rattle.initiator.specs.declared.building.Building.{Building}
 use Rattle.initiator.specs.declared.asked.Asked.{Asked}
-use Rattle.initiator.specs.declared.build.Built.{Built}
 use Rattle.initiator.specs.Building.{startOk, byteOf}
 use Rattle.initiator.specs.Asked.{countBy, byte1By, addressSent, carriedBy, commandBy, enablesFit, sizeBy, replyBy}
 use Rattle.initiator.specs.Build.{gives, longOk, opened, begun, addFault, closeFault, grown, shut, lastSet, added, addedTo, closed, closedTo}
 use Rattle.initiator.specs.Reach.{Lent}
 use Rattle.initiator.specs.Sequence.{Adding, begins, adds, sent, Holds, BuiltIsRead, OpenIsRefused}
 use Rattle.initiator.proofs.Passed as passed
-use Rattle.initiator.proofs.Passed.{both, Adds, Fitting, start-tag, fields-lt}
-use Rattle.initiator.proofs.Calls.{address-top, carried-count}
-
--- a call that was not refused
-unrefused : {n : ℕ} → refusal n ≡ refusal 0 → n ≡ 0
-unrefused e = ap (λ (r : Refusal). r .number) e
+use Rattle.initiator.proofs.Passed.{both, unrefused, Adds, Fitting, start-tag, fields-lt}
+use Rattle.initiator.proofs.Calls.{address-top}
 
 -- what an add that was not refused gives
 record Took (out : List ℕ) (b : Building) (asked : Asked) (payload : List ℕ) : Type 0 where

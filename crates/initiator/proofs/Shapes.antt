@@ -1,22 +1,18 @@
 -- The numbers that commands of one kind come to, one after another, are those of the formula: `on-some` and `back`, and the formula
 -- as the code tests it. proofs/Reach.antt cites these. Assumes nothing.
 use Prim.Native.Nat.{ℕ, zero, suc, _+_, _-_, _*_, _/_, _%_, _<_, _≤_}
-use mathlib.Core.Path.{_≡_, refl, sym, ap, _∙_}
-use mathlib.Core.Bool.{Bool, true, false, not, cond, _&&_, false≢true}
-use mathlib.Core.List.{List, []}
+use mathlib.Core.Path.{_≡_}
+use mathlib.Core.Bool.{Bool, true, false, cond, false≢true}
 use native.Mathlib.Omega.{arith}
 use native.Mathlib.Nat.{zero-mul}
-use borrow.Author.Tests.{ltb-true, leb-true, eqb-true, eqb-false, le-leb, lt-ltb, eq-eqb, ne-eqb, not-true, not-false}
-use lib.Dec.{ltb, leb, eqb}
-use lib.ListN.{length, replicate, length-replicate}
-use Rattle.word.specs.Words.{Words}
+use borrow.Author.Tests.{leb-true, eqb-true, le-leb, eq-eqb, ne-eqb}
+use lib.Dec.{leb, eqb}
 use Rattle.message.specs.declared.header.Kind.{Kind}
 use Rattle.message.specs.declared.header.Kind.the-variants.{Nop, Write, Read, Response}
-use Rattle.message.specs.Limits.{limit, limitBytes}
-use Rattle.message.specs.Header.{kindOf, wideOf, addressBy, addressWords, dataWords, replyWords}
-use Rattle.message.specs.Walk.{countOk}
-use Rattle.initiator.specs.Building.{byteOf, nopsOk, writesOk, readsOk, shapeOk}
-use Rattle.initiator.proofs.Passed.{both, and-on}
+use Rattle.message.specs.Limits.{limit}
+use Rattle.message.specs.Header.{addressBy, dataWords, replyWords}
+use Rattle.initiator.specs.Building.{nopsOk, writesOk, readsOk, shapeOk}
+use Rattle.initiator.proofs.Passed.{both}
 
 -- the words of a command of this kind and of its OK answer
 abbrev pub size : Kind → Bool → ℕ → ℕ

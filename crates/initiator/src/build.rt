@@ -12,7 +12,7 @@ ghost use Rattle.message.specs.Limits.{limit};
 ghost use Rattle.message.specs.Header.{kindOf};
 ghost use Rattle.message.specs.Request.{addressIn, addressTop, commandWords};
 ghost use Rattle.initiator.specs.Building.{byteOf};
-ghost use Rattle.initiator.specs.Asked.{countBy, commandBy, sizeBy, replyBy};
+ghost use Rattle.initiator.specs.Asked.{countBy, commandBy};
 ghost use Rattle.initiator.specs.Build.{gives, opened, begun, usable, addFault, closeFault, grown, shut, lastSet, added, addedTo, closed, closedTo};
 use crate::asked;
 use crate::asked::Asked;

@@ -2,7 +2,6 @@
 ghost use mathlib.Core.Path.{_≡_};
 ghost use Prim.Native.Nat.{_<_, _≤_};
 ghost use Rattle.message.specs.Limits.{limit};
-ghost use Rattle.message.specs.Header.{kindOf, addressWords};
 ghost use Rattle.initiator.specs.Building.{startOk, byteOf, freshOk, nopsOk, writesOk, readsOk, shapeOk, someOk, reachable};
 use message::header;
 use message::header::Kind;

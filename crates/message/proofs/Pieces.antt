@@ -1,22 +1,19 @@
 -- A request's words piece by piece: an address, a command, one command more. Whoever writes a request cites these. Assumes nothing.
-use Prim.Native.Nat.{ℕ, zero, suc, _+_, _*_, _/_, _%_, _<_, _≤_}
-use mathlib.Core.Path.{_≡_, refl, sym, ap, _∙_}
+use Prim.Native.Nat.{ℕ, _+_, _/_, _%_, _<_, _≤_}
+use mathlib.Core.Path.{_≡_, refl, sym, _∙_}
 use mathlib.Core.Bool.{Bool, true, false, cond, not, _&&_, false≢true}
 use mathlib.Core.List.{List, [], _∷_, _++_, append-assoc, append-nil}
 use native.Mathlib.Omega.{arith}
-use borrow.Author.Tests.{lt-ltb, le-ltb}
 use lib.Dec.{ltb, eqb}
 use lib.ListN.{length, getD, length-append}
 use Rattle.word.specs.Words.{wordsOf, bytesOf, Words, Below}
 use Rattle.word.proofs.Runs.{below-append}
 use Rattle.word.proofs.Crossing.{words-back, bytes-below}
-use Rattle.message.specs.declared.header.Kind.{Kind}
-use Rattle.message.specs.declared.header.Kind.the-variants.{Nop, Write, Read, Response}
 use Rattle.message.specs.Limits.{limit}
-use Rattle.message.specs.Header.{kindOf, bit, headerFrom, addressWords, dataWords, bodyWords, replyWords}
-use Rattle.message.specs.Walk.{refusal, asks, countOk, patternOk}
+use Rattle.message.specs.Header.{kindOf, headerFrom, addressWords, bodyWords, replyWords}
+use Rattle.message.specs.Walk.{refusal, asks, patternOk}
 use Rattle.message.specs.Request.{Command, Wrong, addressIn, addressTop, lengthOk, read, commandWords, none, requestWords, written, replies, All, FitsCommand}
-use Rattle.message.specs.Refusals.{openWords, faultIn, FaultAfter, Exactly}
+use Rattle.message.specs.Refusals.{openWords, faultIn, FaultAfter}
 use Rattle.message.proofs.Headers.{byte0-back, address-le}
 use Rattle.message.proofs.Round.{address-long, command-words, length-right}
 use Rattle.message.proofs.Exactly.{exactly, counted-asks}

@@ -1,11 +1,10 @@
 -- `initiator::build::place` meets its contract: header, address and data are the command's words. Assumes nothing.
 use lib.ListN.{length}
-use Rattle.message.proofs.Headers.{address-le}
 use lib.Seq.{length-take-le}
 use mathlib.Core.Path.{sym}
 use native.Mathlib.Omega.{arith}
 use Rattle.initiator.proofs.Passed.{adds}
-use Rattle.initiator.proofs.Calls.{placed-header, placed-address, placed-sent, placed-room, placed-bytes, placed-record}
+use Rattle.initiator.proofs.Calls.{placed-header, placed-address, placed-room, placed-bytes, placed-record}
 use borrow.Author.Needs.{needs}
 use Rattle.initiator.proofs.build.place.Statement.{statement}
 use Rattle.initiator.proofs.build.place.Tie as tie
