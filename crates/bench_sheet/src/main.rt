@@ -47,8 +47,8 @@ fn say_tags(tags: TagRecord) {
 fn serve(
     label: &[u8],
     memory: &mut [u32; 8],
-    stored: &mut [u32],
-    output: &mut [u8],
+    stored: &mut [u32; message::LIMIT],
+    output: &mut [u8; message::LIMIT_BYTES],
     tags: TagRecord,
     datagram: &[u8],
 ) -> TagRecord {
@@ -73,8 +73,8 @@ fn serve(
 fn line(
     label: &[u8],
     memory: &mut [u32; 8],
-    stored: &mut [u32],
-    output: &mut [u8],
+    stored: &mut [u32; message::LIMIT],
+    output: &mut [u8; message::LIMIT_BYTES],
     tags: TagRecord,
     words: &[u32],
 ) -> TagRecord {
@@ -93,7 +93,7 @@ fn bench() -> [u32; 8] {
 }
 
 // Discoveries by the specification's own examples.
-fn discoveries(stored: &mut [u32], output: &mut [u8]) {
+fn discoveries(stored: &mut [u32; message::LIMIT], output: &mut [u8; message::LIMIT_BYTES]) {
     let fresh = TagRecord::fresh();
     let mut memory = bench();
     line(
@@ -122,8 +122,8 @@ fn discoveries(stored: &mut [u32], output: &mut [u8]) {
     );
 }
 
-// The lines (a) to (d), each on what it stands after.
-fn tagged(stored: &mut [u32], output: &mut [u8]) {
+// The lines (a) to (c), each on what it stands after.
+fn tagged(stored: &mut [u32; message::LIMIT], output: &mut [u8; message::LIMIT_BYTES]) {
     let fresh = TagRecord::fresh();
     let feed = [0x8001_0F10, 4, 0xFEED_C0DE];
     let mut memory = bench();
@@ -145,6 +145,12 @@ fn tagged(stored: &mut [u32], output: &mut [u8]) {
         again,
         &[0x8001_0411, 4, 0xAABB_CCDD],
     );
+}
+
+// (d), and a tag that wraps.
+fn out_of_step(stored: &mut [u32; message::LIMIT], output: &mut [u8; message::LIMIT_BYTES]) {
+    let fresh = TagRecord::fresh();
+    let feed = [0x8001_0F10, 4, 0xFEED_C0DE];
     let mut memory = bench();
     let tags = line(b"  (a)", &mut memory, stored, output, fresh, &feed);
     line(
@@ -171,7 +177,7 @@ fn tagged(stored: &mut [u32], output: &mut [u8]) {
 }
 
 // Commands that fail.
-fn errors(stored: &mut [u32], output: &mut [u8]) {
+fn errors(stored: &mut [u32; message::LIMIT], output: &mut [u8; message::LIMIT_BYTES]) {
     let fresh = TagRecord::fresh();
     let mut memory = bench();
     line(
@@ -201,7 +207,7 @@ fn errors(stored: &mut [u32], output: &mut [u8]) {
 }
 
 // The lines that are run only.
-fn refusals(stored: &mut [u32], output: &mut [u8]) {
+fn refusals(stored: &mut [u32; message::LIMIT], output: &mut [u8; message::LIMIT_BYTES]) {
     let fresh = TagRecord::fresh();
     let mut memory = bench();
     serve(b"  no bytes", &mut memory, stored, output, fresh, &[0u8; 0]);
@@ -229,6 +235,12 @@ fn refusals(stored: &mut [u32], output: &mut [u8]) {
         fresh,
         &[0x9001_0F10, 4, 0],
     );
+}
+
+// Reads whose answer just fits, and does not.
+fn lengths(stored: &mut [u32; message::LIMIT], output: &mut [u8; message::LIMIT_BYTES]) {
+    let fresh = TagRecord::fresh();
+    let mut memory = bench();
     line(
         b"  the longest read",
         &mut memory,
@@ -252,6 +264,8 @@ fn main() {
     let mut output = [0u8; message::LIMIT_BYTES];
     discoveries(&mut stored, &mut output);
     tagged(&mut stored, &mut output);
+    out_of_step(&mut stored, &mut output);
     errors(&mut stored, &mut output);
     refusals(&mut stored, &mut output);
+    lengths(&mut stored, &mut output);
 }

@@ -1,64 +1,50 @@
+-- `bench_sheet::sent_words` meets its contract: each word lies within the output, and the turns left fall. Assumes nothing.
+use borrow.Author.Needs.{needs}
+use Prim.Native.Nat.{_-_}
 use Rattle.bench_sheet.proofs.sent_words.Statement.{statement}
 use Rattle.bench_sheet.proofs.sent_words.Tie as tie
-use Rattle.bench_sheet.proofs.sent_words.Reads as reads
-use Rattle.bench_sheet.proofs.sent_words.Lts as lts
-use Rattle.bench_sheet.proofs.say.Reads as say-reads
-use Rattle.bench_sheet.proofs.word_of.Reads as word-of-reads
-use Rattle.word.proofs.word_at.Reads as word-at-reads
 
 abbrev Inv-loop : tie.InvT-loop
-Inv-loop output words i₀ t4 t5 i = ?
+Inv-loop output words i₀ t4 t5 i = Unit {0}
 
 abbrev μ-loop : tie.MeasureT-loop
-μ-loop output words i₀ t4 t5 i = ?
+μ-loop output words i₀ t4 t5 i = words - i
 
--- src/main.rt:24:5
 loop-holds : tie.Need-loop-holds Inv-loop μ-loop
-loop-holds c = ?
+loop-holds c = search needs
 
--- src/main.rt:26:13
 returns : tie.Need-returns Inv-loop μ-loop
-returns c = ?
+returns c = search needs
 
--- src/main.rt:29:17
 slice-aggregate-say : tie.Need-slice-aggregate-say Inv-loop μ-loop
-slice-aggregate-say c = ?
+slice-aggregate-say c = search needs
 
--- src/main.rt:29:13
 say-requires : tie.Need-say-requires Inv-loop μ-loop
-say-requires c κs = ?
+say-requires c κs = search needs
 
--- src/main.rt:30:13
 returns-2 : tie.Need-returns-2 Inv-loop μ-loop
-returns-2 c = ?
+returns-2 c = search needs
 
--- src/main.rt:32:17
 slice-aggregate-word-of : tie.Need-slice-aggregate-word-of Inv-loop μ-loop
-slice-aggregate-word-of c = ?
+slice-aggregate-word-of c = search needs
 
--- src/main.rt:32:23
 word-at-requires : tie.Need-word-at-requires Inv-loop μ-loop
-word-at-requires c κs = ?
+word-at-requires c κs = search needs
 
--- src/main.rt:32:9
 word-of-requires : tie.Need-word-of-requires Inv-loop μ-loop
-word-of-requires c κs = ?
+word-of-requires c κs = search needs
 
--- src/main.rt:33:9
 add-i : tie.Need-add-i Inv-loop μ-loop
-add-i c = ?
+add-i c = search needs
 
--- src/main.rt:24:5
 loop-less : tie.Need-loop-less Inv-loop μ-loop
-loop-less c = ?
+loop-less c = search needs
 
--- src/main.rt:24:5
 loop-again : tie.Need-loop-again Inv-loop μ-loop
-loop-again c = ?
+loop-again c = search needs
 
--- src/main.rt:22:1
 returns-3 : tie.Need-returns-3 Inv-loop μ-loop
-returns-3 c = ?
+returns-3 c = search needs
 
 pub sent-words-spec : {M : Type 1} → statement M
 sent-words-spec =
