@@ -141,7 +141,13 @@ fn room_fits(byte0: u32, words: usize, answer: usize, count: usize) -> bool
 }
 
 // What is wrong with a command of this count, 23 to 26, or 0.
-pub(crate) fn command_fault(byte0: u32, words: usize, answer: usize, asked: Asked, count: usize) -> u32
+pub(crate) fn command_fault(
+    byte0: u32,
+    words: usize,
+    answer: usize,
+    asked: Asked,
+    count: usize,
+) -> u32
     requires { ⌜ (words ≤ limit) × (answer ≤ limit) ⌝ }
     ensures { λ r. ⌜ r ≡ commandFault byte0 words answer asked count ⌝ }
 {
