@@ -21,7 +21,7 @@ pub struct Building {
 }
 
 // Whether a message can have this kind and this tag.
-pub fn start_ok(kind: u32, tag: u32) -> bool
+pub(crate) fn start_ok(kind: u32, tag: u32) -> bool
     ensures { λ r. ⌜ r ≡ startOk kind tag ⌝ }
 {
     match kind {
@@ -31,7 +31,7 @@ pub fn start_ok(kind: u32, tag: u32) -> bool
 }
 
 // Byte 0 of every header of the message.
-pub fn byte0_of(b: Building) -> u32
+pub(crate) fn byte0_of(b: Building) -> u32
     requires { ⌜ b .tag < 16 ⌝ }
     ensures { λ r. ⌜ (r ≡ byteOf b) × (r < 256) ⌝ }
 {
@@ -130,7 +130,7 @@ fn some_ok(b: Building) -> bool
 }
 
 // Whether some sequence of calls gives this record.
-pub fn reached(b: Building) -> bool
+pub(crate) fn reached(b: Building) -> bool
     ensures { λ r. ⌜ r ≡ reachable b ⌝ }
 {
     if !start_ok(b.kind, b.tag) {
