@@ -26,7 +26,7 @@ array-share-prefix-datagram : tie.Need-array-share-prefix-datagram
 array-share-prefix-datagram c = search needs
 
 slice-aggregate-serve : tie.Need-slice-aggregate-serve
-slice-aggregate-serve c = 
+slice-aggregate-serve c =
     let p = c .before .before .before .before .before in
     let ws = now (p .before .before .before .before .before .args .words) in
     let long = ap length (p .put-words .ensures) ∙ length-words _ 0 ws (omega arith) in
