@@ -38,17 +38,14 @@ count-requires c κs = search needs
 last-requires : tie.Need-last-requires
 last-requires c κs = search needs
 
-head-requires : tie.Need-head-requires
-head-requires c κs = search needs
-
-put-both-requires : tie.Need-put-both-requires
-put-both-requires c κs = search needs
+put-head-requires : tie.Need-put-head-requires
+put-head-requires c κs = search needs
 
 add-put-advert : tie.Need-add-put-advert
 add-put-advert c = search needs
 
 put-advert-requires : tie.Need-put-advert-requires
-put-advert-requires c κs = let g = known (c .before .before .before .before .before .before .before .before .before .before .before) in (omega arith, omega arith, omega arith)
+put-advert-requires c κs = let g = known (c .before .before .before .before .before .before .before .before .before .before) in (omega arith, omega arith, omega arith)
 
 add-words : tie.Need-add-words
 add-words c = search needs
@@ -57,10 +54,10 @@ add-words-2 : tie.Need-add-words-2
 add-words-2 c = search needs
 
 add-next : tie.Need-add-next
-add-next c = let g = known (c .before .before .before .before .before .before .before .before .before .before .before .before .before .before .before .before) in omega arith
+add-next c = let g = known (c .before .before .before .before .before .before .before .before .before .before .before .before .before .before .before) in omega arith
 
 add-next-2 : tie.Need-add-next-2
-add-next-2 c = let g = known (c .before .before .before .before .before .before .before .before .before .before .before .before .before .before .before .before) in omega arith
+add-next-2 c = let g = known (c .before .before .before .before .before .before .before .before .before .before .before .before .before .before .before) in omega arith
 
 same-length : tie.Need-same-length
 same-length c = search needs
@@ -72,10 +69,10 @@ returns : tie.Need-returns
 returns c =
     let q = c .before .before .before .before in
     let p = q .before .before .before .before .before .before .before in
-    let l = p .before .before .before .before in
+    let l = p .before .before .before in
     let k = l .before in
     λ m. did-nop (dg k) m (s k .args .stored .now) (s k .args .output .now) (s k .pre .0) (s k .pre .2) (s k .pre .1) (count-is k)
-    (l .last .ensures ∙ ap lastOf (k .before .word-at .ensures)) (p .before .head .ensures) (p .put-both .ensures) (q .put-advert .ensures)
+    (l .last .ensures ∙ ap lastOf (k .before .word-at .ensures)) (p .put-head .ensures) (q .put-advert .ensures)
 
 pub carry-nop-spec : {M : Type 1} → statement M
 carry-nop-spec =
@@ -84,8 +81,7 @@ carry-nop-spec =
     word-at-requires
     count-requires
     last-requires
-    head-requires
-    put-both-requires
+    put-head-requires
     add-put-advert
     put-advert-requires
     add-words
