@@ -1,9 +1,9 @@
 -- One command: what is known where it stands, and what each way of carrying it out comes to. The proofs of `carrying` cite these.
 -- Assumes nothing.
-use Prim.Native.Nat.{ℕ, zero, suc, _+_, _*_, _-_, _/_, _≤_, _<_}
-use mathlib.Core.Path.{_≡_, refl, sym, ap, subst, _∙_}
-use mathlib.Core.Bool.{Bool, true, false, cond, false≢true}
-use mathlib.Core.List.{List, [], _∷_, _++_}
+use Prim.Native.Nat.{ℕ, _+_, _*_, _-_, _/_, _≤_}
+use mathlib.Core.Path.{_≡_, refl, sym, _∙_}
+use mathlib.Core.Bool.{Bool, true, false, false≢true}
+use mathlib.Core.List.{List, [], _∷_}
 use native.Mathlib.Omega.{arith}
 use borrow.Author.Tests.{leb-true}
 use lib.ListN.{length, getD, take, drop, length-drop}
@@ -12,10 +12,10 @@ use Rattle.word.specs.Words.{wordsOf}
 use Rattle.word.proofs.Crossing.{length-wordsOf}
 use Rattle.message.specs.declared.header.Kind.{Kind}
 use Rattle.message.specs.declared.header.Kind.the-variants.{Nop, Write, Read, Response}
-use Rattle.message.specs.Limits.{limit, limitBytes}
-use Rattle.message.specs.Header.{kindOf, byte1Of, firstOf, finalOf, countOf, lastOf, headerFrom, addressWords, dataWords, replyWords, bodyWords}
+use Rattle.message.specs.Limits.{limit}
+use Rattle.message.specs.Header.{kindOf, firstOf, finalOf, countOf, lastOf, headerFrom, addressWords, dataWords, replyWords}
 use Rattle.message.specs.Walk.{countOk}
-use Rattle.message.specs.Request.{Command, addressFrom}
+use Rattle.message.specs.Request.{Command}
 use Rattle.message.proofs.Answering.{answered-is}
 use Rattle.completer.specs.declared.carrying.Task.{Task}
 use Rattle.completer.specs.declared.carrying.Carried.{Carried}

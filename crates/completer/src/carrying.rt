@@ -1,11 +1,9 @@
 // Carrying out a message: each command by its kind, and the loop over the commands.
 ghost use mathlib.Core.Path.{_≡_};
 ghost use Prim.Native.Nat.{_<_, _≤_};
-ghost use lib.ListN.{length};
 ghost use Rattle.word.specs.Words.{wordsOf};
 ghost use Rattle.message.specs.declared.header.Kind.the-variants.{Nop, Write, Read};
 ghost use Rattle.message.specs.Request.{Means, read};
-ghost use Rattle.message.specs.Answer.{answerByte};
 ghost use Rattle.message.specs.Limits.{limit};
 ghost use Rattle.completer.specs.Carrying.{asked, Room, Here, CarriesAt, CarriesNop, FailsThere, Carries};
 use crate::answers;
