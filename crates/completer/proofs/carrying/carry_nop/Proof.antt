@@ -1,9 +1,9 @@
 -- `completer::carrying::carry_nop` meets its contract: a header and the words of the advertisement. Assumes nothing.
-use Prim.Native.Nat.{ℕ, _<_, _^_}
+use Prim.Native.Nat.{ℕ}
 use mathlib.Core.Path.{_≡_, refl, ap, _∙_}
 use mathlib.Core.List.{List}
 use native.Mathlib.Omega.{arith}
-use lib.ListN.{length, getD}
+use lib.ListN.{getD}
 use Rattle.word.specs.Words.{wordsOf}
 use Rattle.message.specs.declared.header.Kind.the-variants.{Nop}
 use Rattle.message.specs.Header.{countOf, lastOf}
@@ -22,9 +22,6 @@ module _ (k : tie.After-count) where
 
   count-is : k .count .result ≡ countOf (getD (wordsOf dg) (s .args .at) 0)
   count-is = k .count .ensures .0 ∙ ap countOf (k .before .word-at .ensures)
-
-  long : length dg < 2 ^ 64
-  long = s .good .1 .1 .1 .0 .0
 
   known : Fitting Nop dg (s .args .task .byte0) (s .args .at) (s .args .n) (k .count .result)
   known = fitting dg (s .pre .0) (s .pre .2) count-is

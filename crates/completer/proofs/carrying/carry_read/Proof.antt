@@ -1,9 +1,9 @@
 -- `completer::carrying::carry_read` meets its contract: it fails, or it is answered with the words of memory. Assumes nothing.
-use Prim.Native.Nat.{ℕ, _+_, _/_, _<_, _^_}
+use Prim.Native.Nat.{ℕ, _+_, _/_}
 use mathlib.Core.Path.{_≡_, refl, sym, ap, _∙_}
 use mathlib.Core.List.{List}
 use native.Mathlib.Omega.{arith}
-use lib.ListN.{length, getD}
+use lib.ListN.{getD}
 use Rattle.word.specs.Words.{wordsOf}
 use Rattle.message.specs.declared.header.Kind.the-variants.{Read}
 use Rattle.message.specs.Header.{countOf, lastOf}
@@ -25,9 +25,6 @@ module _ (k : tie.After-count) where
   count-is : k .count .result ≡ countOf (getD (wordsOf dg) (s .args .at) 0)
   count-is = k .count .ensures .0 ∙ ap countOf (k .before .word-at .ensures)
 
-  long : length dg < 2 ^ 64
-  long = s .good .1 .1 .1 .1 .0 .0
-
   known : Fitting Read dg (s .args .task .byte0) (s .args .at) (s .args .n) (k .count .result)
   known = fitting dg (s .pre .0) (s .pre .2) count-is
 
@@ -38,7 +35,7 @@ count-requires : tie.Need-count-requires
 count-requires c κs = search needs
 
 address-at-requires : tie.Need-address-at-requires
-address-at-requires c κs = let g = known (c) in omega arith
+address-at-requires c κs = let g = known c in omega arith
 
 outside-requires : tie.Need-outside-requires
 outside-requires c κs = search needs

@@ -38,7 +38,7 @@ count-requires : tie.Need-count-requires
 count-requires c κs = search needs
 
 address-at-requires : tie.Need-address-at-requires
-address-at-requires c κs = let g = known (c) in omega arith
+address-at-requires c κs = let g = known c in omega arith
 
 outside-requires : tie.Need-outside-requires
 outside-requires c κs = search needs
