@@ -1,5 +1,5 @@
 -- The marked lines of the bench sheet: computed. Assumes nothing.
-use mathlib.Core.Path.{_≡_, refl}
+use mathlib.Core.Path.{refl}
 use Rattle.word.specs.Words.{wordsOf, bytesOf, put, putWords}
 use Rattle.word.specs.Enables.{byteOf, bitOf, ofBytes, merged}
 use Rattle.message.specs.Header.{kindNo, byte0From, headerFrom, headOf}

@@ -1,18 +1,16 @@
 -- The promises of a call: who changes what, and what is sent. Whoever stands above `serve` cites these. Assumes nothing.
-use Prim.Native.Nat.{ℕ, _*_, _≤_}
-use mathlib.Core.Path.{_≡_, refl, sym, ap, _∙_}
-use mathlib.Core.List.{List, []}
+use Prim.Native.Nat.{ℕ, _*_}
+use mathlib.Core.Path.{_≡_, refl, sym, ap}
+use mathlib.Core.List.{List}
 use lib.ListN.{length, take}
-use lib.Seq.{length-take-le, take-length}
-use Rattle.word.specs.Words.{bytesOf, put, putWords}
+use lib.Seq.{length-take-le}
 use Rattle.word.proofs.Runs.{put-front, words-front}
-use Rattle.message.specs.Request.{Request}
 use Rattle.completer.specs.declared.tags.TagRecord.{TagRecord}
 use Rattle.completer.specs.declared.serving.Verdict.{Verdict}
 use Rattle.completer.specs.declared.serving.Verdict.the-variants.{Refused, New, Repeat, Discovery}
 use Rattle.completer.specs.Carrying.{asked}
-use Rattle.completer.specs.Serving.{After, verdictOf, answerBy, afterBy, after}
-use Rattle.completer.specs.Called.{Unchanged, RefusalKeeps, Stored, NewStores, SentAgain, RepeatSends, DiscoveryKeeps}
+use Rattle.completer.specs.Serving.{verdictOf, answerBy, afterBy, after}
+use Rattle.completer.specs.Called.{Unchanged, RefusalKeeps, NewStores, RepeatSends, DiscoveryKeeps}
 use Rattle.completer.proofs.Verdicts.{again-fits}
 
 module _ (m s o : List ℕ) (t : TagRecord) (dg : List ℕ) where

@@ -1,7 +1,5 @@
 -- The fixed discovery: computed. Whoever starts a sender from its answer cites this. Assumes nothing.
-use mathlib.Core.Path.{_≡_, refl}
 use mathlib.Core.List.{List}
-use lib.ListN.{length}
 use Prim.Native.Nat.{ℕ}
 use Rattle.word.specs.Words.{wordsOf, bytesOf}
 use Rattle.message.specs.Header.{kindNo, byte0From, headerFrom, headOf}

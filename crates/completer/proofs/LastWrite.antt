@@ -5,9 +5,9 @@ use mathlib.Core.Bool.{Bool, true, false, cond, _&&_, _||_, false≢true}
 use mathlib.Core.List.{List, [], _∷_, _++_}
 use native.Mathlib.Omega.{arith}
 use native.Mathlib.Nat.{add-zero}
-use borrow.Author.Tests.{eq-eqb, ne-eqb, ltb-true, ltb-false, leb-true, leb-false, eqb-true}
+use borrow.Author.Tests.{ne-eqb, ltb-true, ltb-false, leb-true, leb-false}
 use lib.Dec.{ltb, leb, eqb, eqb·suc-suc}
-use lib.ListN.{length, getD, set, length-set}
+use lib.ListN.{length, getD, length-set}
 use lib.Seq.{getD-set-same, getD-set-other}
 use Rattle.word.specs.Enables.{byteOf, bitOf, merged}
 use Rattle.word.proofs.Places.{merge-byte}
@@ -16,7 +16,7 @@ use Rattle.message.specs.declared.header.Kind.the-variants.{Write}
 use Rattle.message.specs.Header.{kindOf, firstOf, finalOf, dataWords}
 use Rattle.message.specs.Request.{Command, Request, FitsCommand, All, Fits}
 use Rattle.message.proofs.Answering.{all-first, all-rest}
-use Rattle.completer.specs.Moves.{fails, Move, Store, storesBehind, stores, movesOf, moves, moved, afterMoves, memoryAfter}
+use Rattle.completer.specs.Moves.{fails, Store, storesBehind, stores, movesOf, moves, moved, afterMoves, memoryAfter}
 use Rattle.completer.specs.Promises.{carried, enablesAt, enables, anyEnables, byteAt, LastWrite}
 use Rattle.completer.proofs.Moving.{after-append, length-after, within}
 

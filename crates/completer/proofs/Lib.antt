@@ -1,4 +1,4 @@
--- Laws of carrying out that belong to no one function; the crates above cite them.
+-- Laws of the controller's end that belong to no one function; the crates above cite them.
 pub mod Moving
 pub mod LastWrite
 pub mod Promised

@@ -1,9 +1,9 @@
 -- One command: what is known where it stands, and what each way of carrying it out comes to. The proofs of `carrying` cite these.
 -- Assumes nothing.
-use Prim.Native.Nat.{ℕ, zero, suc, _+_, _*_, _-_, _/_, _≤_, _<_}
-use mathlib.Core.Path.{_≡_, refl, sym, ap, subst, _∙_}
-use mathlib.Core.Bool.{Bool, true, false, cond, false≢true}
-use mathlib.Core.List.{List, [], _∷_, _++_}
+use Prim.Native.Nat.{ℕ, _+_, _*_, _-_, _/_, _≤_}
+use mathlib.Core.Path.{_≡_, refl, sym, _∙_}
+use mathlib.Core.Bool.{Bool, true, false, false≢true}
+use mathlib.Core.List.{List, [], _∷_}
 use native.Mathlib.Omega.{arith}
 use borrow.Author.Tests.{leb-true}
 use lib.ListN.{length, getD, take, drop, length-drop}
@@ -12,10 +12,10 @@ use Rattle.word.specs.Words.{wordsOf}
 use Rattle.word.proofs.Crossing.{length-wordsOf}
 use Rattle.message.specs.declared.header.Kind.{Kind}
 use Rattle.message.specs.declared.header.Kind.the-variants.{Nop, Write, Read, Response}
-use Rattle.message.specs.Limits.{limit, limitBytes}
-use Rattle.message.specs.Header.{kindOf, byte1Of, firstOf, finalOf, countOf, lastOf, headerFrom, addressWords, dataWords, replyWords, bodyWords}
+use Rattle.message.specs.Limits.{limit}
+use Rattle.message.specs.Header.{kindOf, firstOf, finalOf, countOf, lastOf, headerFrom, addressWords, dataWords, replyWords}
 use Rattle.message.specs.Walk.{countOk}
-use Rattle.message.specs.Request.{Command, addressFrom}
+use Rattle.message.specs.Request.{Command}
 use Rattle.message.proofs.Answering.{answered-is}
 use Rattle.completer.specs.declared.carrying.Task.{Task}
 use Rattle.completer.specs.declared.carrying.Carried.{Carried}
@@ -92,43 +92,43 @@ module _ {t : Task} (dg : List ℕ) {at n : ℕ} (m s o : List ℕ) (h : Here t 
       → b ≡ outside (length m) address count → b ≡ true → FailsThere t n s o r s' o' → At r m s' o'
   failed-there kind k q e a f z x = one-failed t c (lastOf (getD ws at 0)) _ n m s o (rw k (q ∙ tested e a f z)) x
 
-  pub did-nop : {s₁ o₁ s' o' : List ℕ} {count head : ℕ} {last : Bool} → t .kind ≡ Nop → Room s o → count ≡ c .count → last ≡ lastOf (getD ws at 0)
-      → head ≡ headerFrom (t .answer) 0 count last → Puts (t .keep) n (head ∷ []) s o s₁ o₁ → Puts (t .keep) (n + 1) (take count (advertisement (t .mark))) s₁ o₁ s' o'
+  pub did-nop : {s₁ o₁ s' o' : List ℕ} {count : ℕ} {last : Bool} → t .kind ≡ Nop → Room s o → count ≡ c .count → last ≡ lastOf (getD ws at 0)
+      → Puts (t .keep) n (headerFrom (t .answer) 0 count last ∷ []) s o s₁ o₁ → Puts (t .keep) (n + 1) (take count (advertisement (t .mark))) s₁ o₁ s' o'
       → At (record { stop = last; words = n + 1 + count; next = at + 1 + count }) m s' o'
-  did-nop k room e l hd p q =
+  did-nop k room e l p q =
       let g = fitting dg h k e in
       let kd : kindOf (t .byte0) ≡ Nop = sym (h .kind) ∙ k in
       let a : okWords (t .kind) (t .mark) m c ≡ take (c .count) (advertisement (t .mark)) = rw k in
       let z : length (take (c .count) (advertisement (t .mark))) ≡ c .count = length-take-le (c .count) (advertisement (t .mark)) (rw e at (g .counted)) in
-      let p' = puts-more (rw (hd, e, l) at p) (rw e at q) refl (rw z (omega arith)) (rw z (omega arith)) in
+      let p' = puts-more (rw (e, l) at p) (rw e at q) refl (rw z (omega arith)) (rw z (omega arith)) in
       rw (l, e) (one-done t c (lastOf (getD ws at 0)) _ n m s o (rw k) (rw kd (omega arith)) (rw (a, z)) (rw k (sym (command-quiet Nop m c (λ w. k-differs w)))) (rw (a, z) p'))
     where
       k-differs : Nop ≡ Write → ⊥
       k-differs w = let z : _≡_ {A = ℕ} 0 1 = cc in omega arith
 
-  pub did-write : {m' s' o' : List ℕ} {count address byte1 from next head : ℕ} {last b : Bool} → t .kind ≡ Write → count ≡ c .count → address ≡ c .address
+  pub did-write : {m' s' o' : List ℕ} {count address byte1 from next : ℕ} {last b : Bool} → t .kind ≡ Write → count ≡ c .count → address ≡ c .address
       → b ≡ outside (length m) address count → b ≡ false → last ≡ lastOf (getD ws at 0) → byte1 ≡ c .byte1 → from ≡ at + 1 + addressWords (t .byte0) → next ≡ from + count
-      → head ≡ headerFrom (t .answer) 0 0 last → Puts (t .keep) n (head ∷ []) s o s' o'
+      → Puts (t .keep) n (headerFrom (t .answer) 0 0 last ∷ []) s o s' o'
       → m' ≡ afterMoves m (stores (address / 4) (firstOf byte1) (finalOf byte1) (take count (drop from ws)))
       → At (record { stop = last; words = n + 1; next = next }) m' s' o'
-  did-write k e a f z l y fr nx hd p mv =
+  did-write k e a f z l y fr nx p mv =
       let kd : kindOf (t .byte0) ≡ Write = sym (h .kind) ∙ k in
       let x : fails (t .kind) (length m) c ≡ false = rw k (tested e a f z) in
-      rw l (one-done t c (lastOf (getD ws at 0)) _ n m s o x (nx ∙ rw (fr, e, kd) (omega arith)) (rw k (omega arith)) (mv ∙ rw (a, y, e, fr, k, kd)) (rw k (rw (hd, l) at p)))
+      rw l (one-done t c (lastOf (getD ws at 0)) _ n m s o x (nx ∙ rw (fr, e, kd) (omega arith)) (rw k (omega arith)) (mv ∙ rw (a, y, e, fr, k, kd)) (rw k (rw l at p)))
 
-  pub did-read : {data' s₁ o₁ s' o' : List ℕ} {count address next words head : ℕ} {last b : Bool} → t .kind ≡ Read → Room s o → count ≡ c .count → address ≡ c .address
+  pub did-read : {data' s₁ o₁ s' o' : List ℕ} {count address next words : ℕ} {last b : Bool} → t .kind ≡ Read → Room s o → count ≡ c .count → address ≡ c .address
       → b ≡ outside (length m) address count → b ≡ false → last ≡ lastOf (getD ws at 0) → next ≡ at + 1 + addressWords (t .byte0) → words ≡ n + 1 + count
-      → head ≡ headerFrom (t .answer) 0 count last → Puts (t .keep) n (head ∷ []) s o s₁ o₁
+      → Puts (t .keep) n (headerFrom (t .answer) 0 count last ∷ []) s o s₁ o₁
       → data' ≡ take count (drop (address / 4) m) → Puts (t .keep) (n + 1) data' s₁ o₁ s' o'
       → At (record { stop = last; words = words; next = next }) m s' o'
-  did-read k room e a f z l nx w hd p d q =
+  did-read k room e a f z l nx w p d q =
       let g = fitting dg h k e in
       let kd : kindOf (t .byte0) ≡ Read = sym (h .kind) ∙ k in
       let x : fails (t .kind) (length m) c ≡ false = rw k (tested e a f z) in
       let i = within (length m) (c .address) (c .count) (tested e a f z) in
       let y : okWords (t .kind) (t .mark) m c ≡ take (c .count) (drop (c .address / 4) m) = rw k in
       let u : length (take (c .count) (drop (c .address / 4) m)) ≡ c .count = length-take-le (c .count) (drop (c .address / 4) m) (simp length-drop (omega arith)) in
-      let p' = puts-more (rw (hd, e, l) at p) (rw (d, e, a) at q) refl (rw u (omega arith)) (rw u (omega arith)) in
+      let p' = puts-more (rw (e, l) at p) (rw (d, e, a) at q) refl (rw u (omega arith)) (rw u (omega arith)) in
       rw l (one-done t c (lastOf (getD ws at 0)) _ n m s o x (nx ∙ rw kd (omega arith)) (w ∙ rw (e, y, u)) (rw k (sym (command-quiet Read m c (λ w. k-differs w)))) (rw (y, u) p'))
     where
       k-differs : Read ≡ Write → ⊥

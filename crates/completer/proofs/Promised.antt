@@ -1,9 +1,9 @@
 -- The promises of carrying out but for `LastWrite`: who changes memory, what a failing command leaves, how each command is answered,
 -- and that the answer fits the request. Assumes nothing.
-use Prim.Native.Nat.{ℕ, zero, suc, _+_, _-_, _/_, _≤_, _<_}
-use mathlib.Core.Path.{_≡_, refl, sym, ap, subst, _∙_}
+use Prim.Native.Nat.{ℕ, zero, suc, _+_, _-_, _/_, _<_}
+use mathlib.Core.Path.{_≡_, refl, sym, ap, _∙_}
 use mathlib.Core.Bool.{Bool, true, false, cond, false≢true}
-use mathlib.Core.List.{List, [], _∷_, _++_}
+use mathlib.Core.List.{List, [], _∷_, _++_, map}
 use native.Mathlib.Omega.{arith}
 use borrow.Author.Tests.{leb-true}
 use lib.Dec.{lit<}
@@ -13,17 +13,15 @@ use Rattle.word.specs.Words.{Words}
 use Rattle.word.proofs.Runs.{below-take, below-drop, below-all}
 use Rattle.message.specs.declared.header.Kind.{Kind}
 use Rattle.message.specs.declared.header.Kind.the-variants.{Nop, Write, Read, Response}
-use Rattle.message.specs.declared.answer.Status.the-variants.{Ok, Timeout, Error}
-use Rattle.message.specs.Limits.{limit, limitBytes}
-use Rattle.message.specs.Header.{kindOf, replyWords}
-use Rattle.message.specs.Walk.{countOk}
+use Rattle.message.specs.declared.answer.Status.the-variants.{Timeout}
+use Rattle.message.specs.Header.{kindOf}
 use Rattle.message.specs.Request.{Command, Request, FitsCommand, All, Fits, none}
 use Rattle.message.specs.Answer.{Answered, FitsAnswered, FitsAnswers}
 use Rattle.message.proofs.Answering.{all-first, all-rest, fits-stop, fits-on}
 use Rattle.message.proofs.Judged.{answers-long}
-use Rattle.completer.specs.Moves.{outside, fails, movesOf, moves, afterMoves, memoryAfter}
+use Rattle.completer.specs.Moves.{fails, movesOf, moves, afterMoves, memoryAfter}
 use Rattle.completer.specs.Answers.{advertisement, okWords, done, failed, answerOf, answers, answerTo, wordsTo}
-use Rattle.completer.specs.Promises.{carried, Quiet, SameLength, StaysWords, asking, Stops, AnsweredThen, AnswersThen, AnswerFits, NeverTimeout}
+use Rattle.completer.specs.Promises.{carried, Quiet, SameLength, StaysWords, Stops, AnswersThen, blank, NotLookedAt, AnswerFits, NeverTimeout}
 use Rattle.completer.proofs.Moving.{after-append, length-after, words-after, command-quiet, within}
 
 pub same-length : (r : Request) (memory : List ℕ) → SameLength r memory
@@ -95,6 +93,19 @@ module _ (kind : Kind) where
       go true (suc i) e ih = let z : _≡_ {A = ℕ} 0 1 = cc in omega arith
       go false zero e ih = let z : _≡_ {A = ℕ} 0 1 = cc in omega arith
       go false (suc i) e ih = ih i e
+
+-- byte 1 is a write's alone
+unseen : (kind : Kind) (mark : ℕ) (m : List ℕ) (cs : List Command) → (kind ≡ Write → ⊥) → answers kind mark m (map blank cs) ≡ answers kind mark m cs
+unfolding answers answerOf
+unseen kind mark m [] h = refl
+unseen Nop mark m (c ∷ cs) h = rw (unseen Nop mark (afterMoves m (movesOf Nop c)) cs h)
+unseen Write mark m (c ∷ cs) h = absurd (h refl)
+unseen Read mark m (c ∷ cs) h = rw (unseen Read mark (afterMoves m (movesOf Read c)) cs h)
+unseen Response mark m (c ∷ cs) h = rw (unseen Response mark (afterMoves m (movesOf Response c)) cs h)
+
+pub not-looked-at : (r : Request) (mark : ℕ) (memory : List ℕ) → NotLookedAt r mark memory
+unfolding answerTo
+not-looked-at r mark memory h = unseen (kindOf (r .byte0)) mark memory (r .commands) h
 
 pub quiet : (r : Request) (memory : List ℕ) → Quiet r memory
 unfolding memoryAfter

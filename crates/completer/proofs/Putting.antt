@@ -1,14 +1,13 @@
 -- Words put in the output and the stored words together: none, one, and a run behind a run. The proofs of `answers` and `carrying`
 -- cite these. Assumes nothing.
 use Prim.Native.Nat.{ℕ, _+_, _*_, _≤_, _<_}
-use mathlib.Core.Path.{_≡_, refl, sym, ap, _∙_}
-use mathlib.Core.Bool.{Bool, true, false, not, cond, false≢true}
+use mathlib.Core.Path.{_≡_, refl, sym, _∙_}
+use mathlib.Core.Bool.{Bool, true, false, not, cond}
 use mathlib.Core.List.{List, [], _∷_, _++_}
-use native.Mathlib.Omega.{arith}
 use borrow.Author.Tests.{not-true, not-false}
 use lib.ListN.{length, set}
-use Rattle.word.specs.Words.{put, putWords}
-use Rattle.word.proofs.Runs.{put-none, put-one, put-put, words-none, words-words, length-put, length-words}
+use Rattle.word.specs.Words.{put}
+use Rattle.word.proofs.Runs.{put-none, put-one, put-put, words-none, words-words, length-put}
 use Rattle.completer.specs.Carrying.{keptIn, Puts}
 
 module _ (keep : Bool) (s : List ℕ) (n : ℕ) where

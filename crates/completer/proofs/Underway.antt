@@ -1,5 +1,5 @@
 -- A message on its way: what was done, and how what is left of it makes the whole. The proof of `carry` cites these. Assumes nothing.
-use Prim.Native.Nat.{ℕ, zero, suc, _+_, _*_, _-_, _≤_, _<_}
+use Prim.Native.Nat.{ℕ, _+_, _-_, _≤_, _<_}
 use mathlib.Core.Path.{_≡_, refl, sym, ap, subst, _∙_}
 use mathlib.Core.Bool.{Bool, true, false, cond, false≢true}
 use mathlib.Core.List.{List, [], _∷_, _++_, append-assoc, append-nil}
@@ -8,9 +8,9 @@ use lib.ListN.{length, getD, length-append, length-take}
 use Rattle.word.specs.Words.{wordsOf, Bytes}
 use Rattle.message.specs.declared.header.Kind.{Kind}
 use Rattle.message.specs.declared.header.Kind.the-variants.{Nop, Write, Read, Response}
-use Rattle.message.specs.Limits.{limit, limitBytes}
+use Rattle.message.specs.Limits.{limit}
 use Rattle.message.specs.Header.{kindOf, countOf, lastOf, replyWords, bodyWords}
-use Rattle.message.specs.Request.{Command, Request, Reading, Means, read, replies, none, Stands}
+use Rattle.message.specs.Request.{Command, Request, Means, read, replies, none, Stands}
 use Rattle.message.specs.Answer.{Answered, answerByte, answeredWords, answerWords}
 use Rattle.message.proofs.Back.{written-read}
 use Rattle.message.proofs.Standing.{stands-starts, Next, stands-next}

@@ -3,13 +3,13 @@
 use Prim.Native.Nat.{ℕ, _-_, _*_, _≤_, _<_}
 use mathlib.Core.Path.{_≡_, refl, sym, ap, _∙_}
 use mathlib.Core.Bool.{Bool, true, false, cond, false≢true}
-use mathlib.Core.List.{List, []}
+use mathlib.Core.List.{List}
 use native.Mathlib.Omega.{arith}
 use native.Mathlib.Nat.{sub-zero}
 use borrow.Author.Tests.{ltb-false, leb-true, leb-false}
 use lib.Dec.{ltb, leb, eqb}
-use lib.ListN.{length, getD, take}
-use Rattle.word.specs.Words.{put, putWords}
+use lib.ListN.{length, take}
+use Rattle.word.specs.Words.{putWords}
 use Rattle.word.proofs.Runs.{words-none}
 use Rattle.message.specs.declared.refusal.Refusal.{Refusal}
 use Rattle.message.specs.Limits.{limit, limitBytes}
@@ -20,11 +20,9 @@ use Rattle.completer.specs.declared.tags.TagRecord.{TagRecord}
 use Rattle.completer.specs.declared.serving.Verdict.{Verdict}
 use Rattle.completer.specs.declared.serving.Verdict.the-variants.{Refused, New, Repeat, Discovery}
 use Rattle.completer.specs.declared.serving.Served.{Served}
-use Rattle.completer.specs.Moves.{memoryAfter}
-use Rattle.completer.specs.Answers.{wordsTo}
-use Rattle.completer.specs.Carrying.{asked, askedBy, keptIn, Puts, Room, Carries}
+use Rattle.completer.specs.Carrying.{asked, askedBy, keptIn, Carries}
 use Rattle.completer.specs.Tags.{repeats, expected, markOf, mostMemory, lentOk, heldOk, recordOk, keptOk}
-use Rattle.completer.specs.Serving.{ruleOf, judged, verdictOf, answerBy, recordBy, afterBy, after, carriesOf, keepsOf, refusalOf, againOf, Serves, ServesBy}
+use Rattle.completer.specs.Serving.{ruleOf, judged, verdictOf, answerBy, recordBy, after, carriesOf, keepsOf, refusalOf, againOf, Serves, ServesBy}
 
 -- a record that is let by: where it holds a tag, the tag and the length are right
 pub record Holds (tags : TagRecord) : Type 0 where

@@ -1,5 +1,4 @@
 -- `completer::answers::put_advert` meets its contract: no word, one, or one behind the other. Assumes nothing.
-use Prim.Native.Nat.{ℕ}
 use mathlib.Core.Path.{_≡_, refl}
 use native.Mathlib.Omega.{arith}
 use Rattle.completer.proofs.Putting.{puts-none, puts-more}

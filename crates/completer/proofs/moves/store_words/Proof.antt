@@ -1,7 +1,5 @@
 -- `completer::moves::store_words` meets its contract: a word merged, a run copied, a word merged. Assumes nothing.
-use mathlib.Core.Path.{_∙_, ap}
 use native.Mathlib.Omega.{arith}
-use lib.ListN.{length}
 use Rattle.word.specs.Words.{wordsOf}
 use Rattle.word.proofs.Runs.{below-all}
 use Rattle.word.proofs.Crossing.{words-below, length-wordsOf}

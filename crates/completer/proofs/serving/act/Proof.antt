@@ -1,6 +1,5 @@
 -- `completer::serving::act` meets its contract: the message is carried out, and the record follows. Assumes nothing.
 use mathlib.Core.Path.{_∙_}
-use native.Mathlib.Omega.{arith}
 use Rattle.message.proofs.Going.{read-first}
 use Rattle.completer.proofs.Verdicts.{acted}
 use borrow.Author.Needs.{needs}
