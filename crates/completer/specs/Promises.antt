@@ -1,5 +1,5 @@
 -- What is promised of carrying out, in other words than its definitions: so a wrong definition cannot hide. The proofs are in
--- proofs/LastWrite.antt and proofs/Promised.antt. Assumes nothing.
+-- proofs/Laws/LastWrite.antt and proofs/Laws/Promised.antt. Assumes nothing.
 use Prim.Native.Nat.{ℕ, suc, _+_, _-_, _/_, _<_, _≤_}
 use mathlib.Core.Path.{_≡_}
 use mathlib.Core.Bool.{Bool, true, false, cond, _&&_, _||_}

@@ -1,4 +1,4 @@
--- What is promised of the sender, in other words than its definitions. The proofs are in proofs/Promised.antt. Assumes nothing.
+-- What is promised of the sender, in other words than its definitions. The proofs are in proofs/Laws/Promised.antt. Assumes nothing.
 use Prim.Native.Nat.{ℕ, _+_, _%_}
 use mathlib.Core.Path.{_≡_}
 use mathlib.Core.Bool.{false}

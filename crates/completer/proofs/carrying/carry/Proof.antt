@@ -7,7 +7,7 @@ use lib.ListN.{length}
 use Rattle.word.specs.Words.{wordsOf}
 use Rattle.word.proofs.Runs.{below-all}
 use Rattle.completer.specs.Carrying.{asked}
-use Rattle.completer.proofs.Underway.{Underway, starts, here-at, ends, short, goes, nearer}
+use Rattle.completer.proofs.Laws.Underway.{Underway, starts, here-at, ends, short, goes, nearer}
 use Rattle.completer.proofs.carrying.carry.Statement.{statement}
 use Rattle.completer.proofs.carrying.carry.Tie as tie
 

@@ -7,7 +7,7 @@ use lib.ListN.{getD}
 use Rattle.word.specs.Words.{wordsOf}
 use Rattle.message.specs.declared.header.Kind.the-variants.{Nop}
 use Rattle.message.specs.Header.{countOf, lastOf}
-use Rattle.completer.proofs.OneCommand.{Fitting, fitting, did-nop}
+use Rattle.completer.proofs.Laws.OneCommand.{Fitting, fitting, did-nop}
 use borrow.Author.Needs.{needs}
 use Rattle.completer.proofs.carrying.carry_nop.Statement.{statement}
 use Rattle.completer.proofs.carrying.carry_nop.Tie as tie

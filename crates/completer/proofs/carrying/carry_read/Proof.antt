@@ -8,8 +8,8 @@ use Rattle.word.specs.Words.{wordsOf}
 use Rattle.message.specs.declared.header.Kind.the-variants.{Read}
 use Rattle.message.specs.Header.{countOf, lastOf}
 use lib.ListN.{length-take, length-drop}
-use Rattle.completer.proofs.Moving.{within, read-one, read-part}
-use Rattle.completer.proofs.OneCommand.{Fitting, fitting, failed-there, did-read}
+use Rattle.completer.proofs.Laws.Moving.{within, read-one, read-part}
+use Rattle.completer.proofs.Laws.OneCommand.{Fitting, fitting, failed-there, did-read}
 use borrow.Author.Needs.{needs}
 use Rattle.completer.proofs.carrying.carry_read.Statement.{statement}
 use Rattle.completer.proofs.carrying.carry_read.Tie as tie

@@ -7,8 +7,8 @@ use lib.ListN.{length, getD}
 use Rattle.word.specs.Words.{wordsOf}
 use Rattle.message.specs.declared.header.Kind.the-variants.{Write}
 use Rattle.message.specs.Header.{countOf, lastOf, byte1Of}
-use Rattle.completer.proofs.Moving.{within, write-one}
-use Rattle.completer.proofs.OneCommand.{Fitting, fitting, failed-there, did-write}
+use Rattle.completer.proofs.Laws.Moving.{within, write-one}
+use Rattle.completer.proofs.Laws.OneCommand.{Fitting, fitting, failed-there, did-write}
 use Rattle.word.proofs.Crossing.{length-wordsOf}
 use borrow.Author.Needs.{needs}
 use Rattle.completer.proofs.carrying.carry_write.Statement.{statement}

@@ -3,8 +3,8 @@ use lib.ListN.{length}
 use lib.Seq.{length-take-le}
 use mathlib.Core.Path.{sym}
 use native.Mathlib.Omega.{arith}
-use Rattle.initiator.proofs.Passed.{adds}
-use Rattle.initiator.proofs.Calls.{placed-header, placed-address, placed-room, placed-bytes, placed-record}
+use Rattle.initiator.proofs.Laws.Passed.{adds}
+use Rattle.initiator.proofs.Laws.Calls.{placed-header, placed-address, placed-room, placed-bytes, placed-record}
 use borrow.Author.Needs.{needs}
 use Rattle.initiator.proofs.build.place.Statement.{statement}
 use Rattle.initiator.proofs.build.place.Tie as tie

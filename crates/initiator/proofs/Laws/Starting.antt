@@ -21,9 +21,9 @@ use Rattle.message.specs.Header.{kindOf, byte0From, replyWords}
 use Rattle.message.specs.Walk.{refusal}
 use Rattle.message.specs.Request.{Reading, Wrong, Means, before, lengthOk}
 use Rattle.message.specs.Answer.{Answered, answerByte, wanted, judge, lookAt, lookTurn, answersFrom}
-use Rattle.message.proofs.Headers.{kind-back}
-use Rattle.message.proofs.Judged.{other-byte}
-use Rattle.message.proofs.Looking.{judge-long, judge-whole, looked, Found, found}
+use Rattle.message.proofs.Laws.Headers.{kind-back}
+use Rattle.message.proofs.Laws.Judged.{other-byte}
+use Rattle.message.proofs.Laws.Looking.{judge-long, judge-whole, looked, Found, found}
 use Rattle.initiator.specs.declared.sender.Moved.{Moved}
 use Rattle.initiator.specs.Sender.{discoveryByte, discoveryCommand, discoveryRequest, wordOk, spoiled, startedBy, startedFrom, startOf}
 

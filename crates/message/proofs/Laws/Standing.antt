@@ -13,9 +13,9 @@ use Rattle.word.proofs.Crossing.{words-back}
 use Rattle.message.specs.Limits.{limit}
 use Rattle.message.specs.Header.{kindOf, byte1Of, countOf, lastOf, headerFrom, addressWords, dataWords, bodyWords}
 use Rattle.message.specs.Request.{Command, Request, Reading, Means, addressFrom, addressIn, read, commandWords, none, requestWords, written, FitsCommand, All, Fits, Stands}
-use Rattle.message.proofs.Headers.{byte1-back, count-back, last-back, address-le}
-use Rattle.message.proofs.Round.{address-long, address-back, body-long, request-words}
-use Rattle.message.proofs.Back.{written-read}
+use Rattle.message.proofs.Laws.Headers.{byte1-back, count-back, last-back, address-le}
+use Rattle.message.proofs.Laws.Round.{address-long, address-back, body-long, request-words}
+use Rattle.message.proofs.Laws.Back.{written-read}
 
 -- an address in none, one or two words from word `at` on
 module _ (n : ℕ) (ws : List ℕ) (at : ℕ) where

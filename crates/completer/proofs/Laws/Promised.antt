@@ -17,12 +17,12 @@ use Rattle.message.specs.declared.answer.Status.the-variants.{Timeout}
 use Rattle.message.specs.Header.{kindOf}
 use Rattle.message.specs.Request.{Command, Request, FitsCommand, All, Fits, none}
 use Rattle.message.specs.Answer.{Answered, FitsAnswered, FitsAnswers}
-use Rattle.message.proofs.Answering.{all-first, all-rest, fits-stop, fits-on}
-use Rattle.message.proofs.Judged.{answers-long}
+use Rattle.message.proofs.Laws.Answering.{all-first, all-rest, fits-stop, fits-on}
+use Rattle.message.proofs.Laws.Judged.{answers-long}
 use Rattle.completer.specs.Moves.{fails, movesOf, moves, afterMoves, memoryAfter}
 use Rattle.completer.specs.Answers.{advertisement, okWords, done, failed, answerOf, answers, answerTo, wordsTo}
 use Rattle.completer.specs.Promises.{carried, Quiet, SameLength, StaysWords, Stops, AnswersThen, blank, NotLookedAt, AnswerFits, NeverTimeout}
-use Rattle.completer.proofs.Moving.{after-append, length-after, words-after, command-quiet, within}
+use Rattle.completer.proofs.Laws.Moving.{after-append, length-after, words-after, command-quiet, within}
 
 pub same-length : (r : Request) (memory : List ℕ) → SameLength r memory
 unfolding memoryAfter

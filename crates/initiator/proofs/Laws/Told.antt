@@ -10,9 +10,9 @@ use Rattle.message.specs.Header.{kindOf, discoveryOf}
 use Rattle.message.specs.Walk.{refusal}
 use Rattle.message.specs.Request.{Request, Reading, Wrong, Means, read, lengthOk}
 use Rattle.message.specs.Answer.{answerByte, judge}
-use Rattle.message.proofs.Going.{read-first}
-use Rattle.message.proofs.Looking.{judge-long, judge-whole}
-use Rattle.message.proofs.Judged.{other-byte}
+use Rattle.message.proofs.Laws.Going.{read-first}
+use Rattle.message.proofs.Laws.Looking.{judge-long, judge-whole}
+use Rattle.message.proofs.Laws.Judged.{other-byte}
 use Rattle.initiator.specs.Outcome.{answerTo, refusedWith, toldOf, outcomeOf, Ready, answersTo}
 
 module _ (request answer : List ℕ) (k : ℕ) where

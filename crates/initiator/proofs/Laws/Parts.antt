@@ -18,8 +18,8 @@ use Rattle.message.specs.Header.{discoveryOf, headerFrom}
 use Rattle.message.specs.Walk.{refusal}
 use Rattle.message.specs.Request.{Request, Reading, Wrong, Means, read, none}
 use Rattle.message.specs.Answer.{Answered, codeOf, answerByte, judge, answeredWords, answerWords, encodeAnswer}
-use Rattle.message.proofs.Answering.{answered-is, answer-more, encoded-is}
-use Rattle.message.proofs.Judged.{encode-judged}
+use Rattle.message.proofs.Laws.Answering.{answered-is, answer-more, encoded-is}
+use Rattle.message.proofs.Laws.Judged.{encode-judged}
 use Rattle.initiator.specs.declared.outcome.Span.{Span}
 use Rattle.initiator.specs.Outcome.{answerTo, empty, spanOf, partOf, partAt, partIn, cut, dataOf, dataAt, dataIn}
 

@@ -20,8 +20,8 @@ use Rattle.message.specs.Limits.{limit, limitBytes}
 use Rattle.message.specs.Header.{kindOf, byte0Of, byte1Of, countOf, reservedOf, lastOf, headerFrom, addressWords, dataWords, bodyWords, headOf}
 use Rattle.message.specs.Walk.{refusal, asks, endsOk, faultOf, stepOn}
 use Rattle.message.specs.Request.{Command, Request, Reading, Wrong, Means, addressFrom, addressIn, addressTop, commandOf, before, turn, commandsFrom, replies, ended, lengthOk, read, commandWords, none, requestWords, written, FitsCommand, All, FitsAsked, Fits}
-use Rattle.message.proofs.Headers.{header-is, address-le}
-use Rattle.message.proofs.Faults.{Sound, sound, no-mean, past, before-is}
+use Rattle.message.proofs.Laws.Headers.{header-is, address-le}
+use Rattle.message.proofs.Laws.Faults.{Sound, sound, no-mean, past, before-is}
 
 -- an address's words are rebuilt from it
 address-is : (n : ℕ) (ws : List ℕ) → n ≤ 2 → n ≤ length ws → Words ws → addressIn n (addressFrom n ws) ++ drop n ws ≡ ws

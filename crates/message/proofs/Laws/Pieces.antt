@@ -14,9 +14,9 @@ use Rattle.message.specs.Header.{kindOf, headerFrom, addressWords, bodyW
 use Rattle.message.specs.Walk.{refusal, asks, patternOk}
 use Rattle.message.specs.Request.{Command, Wrong, addressIn, addressTop, lengthOk, read, commandWords, none, requestWords, written, replies, All, FitsCommand}
 use Rattle.message.specs.Refusals.{openWords, faultIn, FaultAfter}
-use Rattle.message.proofs.Headers.{byte0-back, address-le}
-use Rattle.message.proofs.Round.{address-long, command-words, length-right}
-use Rattle.message.proofs.Exactly.{exactly, counted-asks}
+use Rattle.message.proofs.Laws.Headers.{byte0-back, address-le}
+use Rattle.message.proofs.Laws.Round.{address-long, command-words, length-right}
+use Rattle.message.proofs.Laws.Exactly.{exactly, counted-asks}
 
 -- an address of none, one and two words, and what they can carry
 pub address-none : (a : ℕ) → addressIn 0 a ≡ []

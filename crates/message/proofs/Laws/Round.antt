@@ -16,8 +16,8 @@ use Rattle.message.specs.Limits.{limit, limitBytes}
 use Rattle.message.specs.Header.{kindOf, byte0Of, byte1Of, countOf, reservedOf, lastOf, headerFrom, addressWords, dataWords, bodyWords, headOf}
 use Rattle.message.specs.Walk.{refusal, asks, endsOk, stepOn}
 use Rattle.message.specs.Request.{Command, Request, Reading, Wrong, Means, addressFrom, addressIn, addressTop, commandOf, before, commandsFrom, replies, ended, lengthOk, read, commandWords, none, requestWords, written, FitsCommand, All, FitsAsked, Fits}
-use Rattle.message.proofs.Headers.{byte0-back, byte1-back, count-back, reserved-back, last-back, header-lt, address-le}
-use Rattle.message.proofs.Faults.{Sound, faultless, step-read, skipped}
+use Rattle.message.proofs.Laws.Headers.{byte0-back, byte1-back, count-back, reserved-back, last-back, header-lt, address-le}
+use Rattle.message.proofs.Laws.Faults.{Sound, faultless, step-read, skipped}
 
 -- an address is read back from its words
 pub address-long : (n a : ℕ) → n ≤ 2 → length (addressIn n a) ≡ n

@@ -20,9 +20,9 @@ use Rattle.message.specs.Limits.{limit}
 use Rattle.message.specs.Header.{kindOf, countOf, lastOf, bodyWords, replyWords, headOf}
 use Rattle.message.specs.Walk.{refusal, faultOf, stepOn, stepAt}
 use Rattle.message.specs.Request.{Command, Request, Reading, Wrong, Means, commandOf, before, turn, commandsFrom, replies, ended, endOf, finish, walked, lengthOk, read, walkOf}
-use Rattle.message.proofs.Headers.{reply-le}
-use Rattle.message.proofs.Faults.{Sound, sound, skipped, past}
-use Rattle.message.proofs.Back.{Right, right, ended-is}
+use Rattle.message.proofs.Laws.Headers.{reply-le}
+use Rattle.message.proofs.Laws.Faults.{Sound, sound, skipped, past}
+use Rattle.message.proofs.Laws.Back.{Right, right, ended-is}
 
 -- a step whose words behind it read the same
 turn-same : (s : Step) (c : Command) (f g : ℕ → Reading (List Command)) → ((n : ℕ) → f n ≡ g n) → turn s c f ≡ turn s c g

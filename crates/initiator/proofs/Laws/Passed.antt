@@ -11,7 +11,7 @@ use Rattle.message.specs.Limits.{limit, limitBytes}
 use Rattle.message.specs.Header.{kindOf, wideOf, addressWords}
 use Rattle.message.specs.declared.refusal.Refusal.{Refusal}
 use Rattle.message.specs.Walk.{refusal, countOk, patternOk}
-use Rattle.message.proofs.Faults.{passed}
+use Rattle.message.proofs.Laws.Faults.{passed}
 use Rattle.initiator.specs.declared.building.Building.{Building}
 use Rattle.initiator.specs.declared.asked.Asked.{Asked}
 use Rattle.initiator.specs.Building.{startOk, byteOf, freshOk, shapeOk, someOk, reachable}

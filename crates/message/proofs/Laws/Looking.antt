@@ -20,8 +20,8 @@ use Rattle.message.specs.Header.{countOf, lastOf, byte1Of}
 use Rattle.message.specs.Walk.{refusal}
 use Rattle.message.specs.Request.{Command, Request, Reading, Wrong, Means, before, lengthOk, none}
 use Rattle.message.specs.Answer.{Answered, statusNo, answerByte, wanted, stops, answerFault, seenOf, lookOn, lookAt, lookTurn, answersFrom, judge}
-use Rattle.message.proofs.Faults.{past}
-use Rattle.message.proofs.Answers.{Fair, fair}
+use Rattle.message.proofs.Laws.Faults.{past}
+use Rattle.message.proofs.Laws.Answers.{Fair, fair}
 
 -- a look whose words behind it answer the same
 look-same : (l : Look) (rest : List ℕ) (f g : ℕ → Reading (List Answered)) → ((n : ℕ) → f n ≡ g n) → lookTurn l rest f ≡ lookTurn l rest g

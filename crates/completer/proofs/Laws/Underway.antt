@@ -12,16 +12,16 @@ use Rattle.message.specs.Limits.{limit}
 use Rattle.message.specs.Header.{kindOf, countOf, lastOf, replyWords, bodyWords}
 use Rattle.message.specs.Request.{Command, Request, Means, read, replies, none, Stands}
 use Rattle.message.specs.Answer.{Answered, answerByte, answeredWords, answerWords}
-use Rattle.message.proofs.Back.{written-read}
-use Rattle.message.proofs.Standing.{stands-starts, Next, stands-next}
-use Rattle.message.proofs.Answering.{answered-is, answer-none, answer-more, replies-more}
+use Rattle.message.proofs.Laws.Back.{written-read}
+use Rattle.message.proofs.Laws.Standing.{stands-starts, Next, stands-next}
+use Rattle.message.proofs.Laws.Answering.{answered-is, answer-none, answer-more, replies-more}
 use Rattle.completer.specs.declared.carrying.Task.{Task}
 use Rattle.completer.specs.declared.carrying.Carried.{Carried}
 use Rattle.completer.specs.Moves.{fails, movesOf, moves, afterMoves, memoryAfter}
 use Rattle.completer.specs.Answers.{okWords, done, failed, answerOf, answers, answerTo, wordsTo}
 use Rattle.completer.specs.Carrying.{Puts, Room, commandAt, Here, CarriesOne, CarriesAt, Carries}
-use Rattle.completer.proofs.Moving.{after-append, length-after}
-use Rattle.completer.proofs.Putting.{puts-none, puts-more}
+use Rattle.completer.proofs.Laws.Moving.{after-append, length-after}
+use Rattle.completer.proofs.Laws.Putting.{puts-none, puts-more}
 
 -- a command more of the list: where the message stops there, and where it goes on
 module _ (kind : Kind) (mark byte : ℕ) (m : List ℕ) (c : Command) where

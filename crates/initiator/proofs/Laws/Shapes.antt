@@ -1,5 +1,5 @@
 -- The numbers that commands of one kind come to, one after another, are those of the formula: `on-some` and `back`, and the formula
--- as the code tests it. proofs/Reach.antt cites these. Assumes nothing.
+-- as the code tests it. proofs/Laws/Reach.antt cites these. Assumes nothing.
 use Prim.Native.Nat.{ℕ, zero, suc, _+_, _-_, _*_, _/_, _%_, _<_, _≤_}
 use mathlib.Core.Path.{_≡_}
 use mathlib.Core.Bool.{Bool, true, false, cond, false≢true}
@@ -12,7 +12,7 @@ use Rattle.message.specs.declared.header.Kind.the-variants.{Nop, Write, Read, R
 use Rattle.message.specs.Limits.{limit}
 use Rattle.message.specs.Header.{addressBy, dataWords, replyWords}
 use Rattle.initiator.specs.Building.{nopsOk, writesOk, readsOk, shapeOk}
-use Rattle.initiator.proofs.Passed.{both}
+use Rattle.initiator.proofs.Laws.Passed.{both}
 
 -- the words of a command of this kind and of its OK answer
 abbrev pub size : Kind → Bool → ℕ → ℕ

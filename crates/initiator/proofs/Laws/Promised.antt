@@ -13,19 +13,19 @@ use Rattle.message.specs.Header.{tagOf, discoveryOf}
 use Rattle.message.specs.Walk.{refusal}
 use Rattle.message.specs.Request.{Request, Reading, Wrong, Means, read, Fits}
 use Rattle.message.specs.Answer.{Answered, answerByte, judge, encodeAnswer}
-use Rattle.message.proofs.Faults.{no-mean}
-use Rattle.message.proofs.Back.{written-read}
-use Rattle.message.proofs.Going.{read-first}
-use Rattle.message.proofs.Judged.{encode-judged}
-use Rattle.message.proofs.Looking.{judge-first}
-use Rattle.message.proofs.Answers.{answer-tag, answer-discovery}
-use Rattle.message.proofs.Looking.{Some}
+use Rattle.message.proofs.Laws.Faults.{no-mean}
+use Rattle.message.proofs.Laws.Back.{written-read}
+use Rattle.message.proofs.Laws.Going.{read-first}
+use Rattle.message.proofs.Laws.Judged.{encode-judged}
+use Rattle.message.proofs.Laws.Looking.{judge-first}
+use Rattle.message.proofs.Laws.Answers.{answer-tag, answer-discovery}
+use Rattle.message.proofs.Laws.Looking.{Some}
 use Rattle.initiator.specs.declared.sender.Sender.{Sender}
 use Rattle.initiator.specs.declared.sender.Moved.{Moved}
 use Rattle.initiator.specs.Outcome.{answerTo}
 use Rattle.initiator.specs.Sender.{offerFault, sendFault, offerOf, takenBy, takeOf}
 use Rattle.initiator.specs.Promises.{KeepsRefused, Accepted, AcceptedIs, Alone}
-use Rattle.initiator.proofs.Sending.{answer-some}
+use Rattle.initiator.proofs.Laws.Sending.{answer-some}
 
 -- a refusal leaves the sender as it was
 pub offer-keeps : (s : Sender) (message : List ℕ) → KeepsRefused s (offerOf s message)

@@ -21,7 +21,7 @@ use Rattle.initiator.specs.Build.{gives, longOk, opened, begun, addFault
 use Rattle.initiator.specs.Reach.{Lent}
 use Rattle.initiator.specs.Sequence.{Adding, begins, adds}
 use Rattle.initiator.specs.Discovery.{discoveryData, discoveryBytes, discoveryBegun, discoveryAdded, discoveryOut, DiscoveryIsBuilt}
-use Rattle.initiator.proofs.Sequence.{built-is-read}
+use Rattle.initiator.proofs.Laws.Sequence.{built-is-read}
 
 -- the record that begin gives, and that with the data added
 abbrev first : Building

@@ -21,11 +21,11 @@ use Rattle.message.specs.Walk.{refusal, endsOk}
 use Rattle.message.specs.Request.{Command, Request, Reading, Wrong, Means, before, replies, lengthOk, none, FitsCommand, All, FitsAsked, Fits}
 use Rattle.message.specs.Answer.{Answered, codeOf, statusNo, answerByte, wanted, stops, answerFault, seenOf, lookOn, lookTurn, answersFrom, judge, answeredWords, answerWords, encodeAnswer, FitsAnswered, FitsAnswers, FitsAnswer}
 use Rattle.message.specs.Refusals.{AcceptsExactly}
-use Rattle.message.proofs.Headers.{byte0-back, byte1-back, count-back, reserved-back, last-back, header-lt, header-is}
-use Rattle.message.proofs.Faults.{no-mean, past, before-is}
-use Rattle.message.proofs.Round.{length-right, ends-at}
-use Rattle.message.proofs.Back.{Right, right}
-use Rattle.message.proofs.Answers.{status-code, code-status, code-lt, answer-lt, wanted-le, wanted-reply, Fair, fair, fair-fault}
+use Rattle.message.proofs.Laws.Headers.{byte0-back, byte1-back, count-back, reserved-back, last-back, header-lt, header-is}
+use Rattle.message.proofs.Laws.Faults.{no-mean, past, before-is}
+use Rattle.message.proofs.Laws.Round.{length-right, ends-at}
+use Rattle.message.proofs.Laws.Back.{Right, right}
+use Rattle.message.proofs.Laws.Answers.{status-code, code-status, code-lt, answer-lt, wanted-le, wanted-reply, Fair, fair, fair-fault}
 
 -- a look by its header's fault
 look-item : (byte0 count : ℕ) (last : Bool) (h left : ℕ) → answerFault byte0 count last h left ≡ 0 → lookOn byte0 count last h left ≡ Item (seenOf h)

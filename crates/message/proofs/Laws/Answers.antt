@@ -12,8 +12,8 @@ use Rattle.message.specs.Header.{tagOf, wideOf, discoveryOf, kindOf, byt
 use Rattle.message.specs.Walk.{endsOk, unless}
 use Rattle.message.specs.Answer.{codeOf, statusNo, answerByte, wanted, stops, answerFault}
 use Rattle.message.specs.declared.header.Kind.the-variants.{Response}
-use Rattle.message.proofs.Headers.{tag-back, discovery-back, byte0-lt, reply-le}
-use Rattle.message.proofs.Faults.{passed}
+use Rattle.message.proofs.Laws.Headers.{tag-back, discovery-back, byte0-lt, reply-le}
+use Rattle.message.proofs.Laws.Faults.{passed}
 
 -- a status is what its code names, and the other way
 pub status-code : (s : Status) → statusNo (codeOf s) ≡ s

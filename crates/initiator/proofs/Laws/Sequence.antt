@@ -16,10 +16,10 @@ use Rattle.message.specs.Header.{kindOf, wideOf, addressWords, dataWords, heade
 use Rattle.message.specs.Walk.{refusal, enablesOk}
 use Rattle.message.specs.Request.{Command, Request, written, replies, addressIn, commandWords, requestWords, All, FitsCommand, Fits}
 use Rattle.message.specs.Refusals.{openWords}
-use Rattle.message.proofs.Headers.{byte0-lt}
-use Rattle.message.proofs.Round.{read-written}
-use Rattle.message.proofs.Exactly.{counted-asks}
-use Rattle.message.proofs.Pieces.{header-last, header-low, command-pieces, command-long, written-is, open-more, request-more, replies-more, all-more, all-none, none-more, open-none, replies-none, open-refused}
+use Rattle.message.proofs.Laws.Headers.{byte0-lt}
+use Rattle.message.proofs.Laws.Round.{read-written}
+use Rattle.message.proofs.Laws.Exactly.{counted-asks}
+use Rattle.message.proofs.Laws.Pieces.{header-last, header-low, command-pieces, command-long, written-is, open-more, request-more, replies-more, all-more, all-none, none-more, open-none, replies-none, open-refused}
 use Rattle.initiator.specs.declared.building.Building.{Building}
 use Rattle.initiator.specs.declared.asked.Asked.{Asked}
 use Rattle.initiator.specs.Building.{startOk, byteOf}
@@ -27,9 +27,9 @@ use Rattle.initiator.specs.Asked.{countBy, byte1By, addressSent, carried
 use Rattle.initiator.specs.Build.{gives, longOk, opened, begun, addFault, closeFault, grown, shut, lastSet, added, addedTo, closed, closedTo}
 use Rattle.initiator.specs.Reach.{Lent}
 use Rattle.initiator.specs.Sequence.{Adding, begins, adds, sent, Holds, BuiltIsRead, OpenIsRefused}
-use Rattle.initiator.proofs.Passed as passed
-use Rattle.initiator.proofs.Passed.{both, unrefused, Adds, Fitting, start-tag, fields-lt}
-use Rattle.initiator.proofs.Calls.{address-top}
+use Rattle.initiator.proofs.Laws.Passed as passed
+use Rattle.initiator.proofs.Laws.Passed.{both, unrefused, Adds, Fitting, start-tag, fields-lt}
+use Rattle.initiator.proofs.Laws.Calls.{address-top}
 
 -- what an add that was not refused gives
 record Took (out : List ℕ) (b : Building) (asked : Asked) (payload : List ℕ) : Type 0 where

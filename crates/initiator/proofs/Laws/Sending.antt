@@ -12,9 +12,9 @@ use Rattle.message.specs.Header.{tagOf, discoveryOf}
 use Rattle.message.specs.Walk.{refusal}
 use Rattle.message.specs.Request.{Request, Reading, Wrong, Means, read}
 use Rattle.message.specs.Answer.{Answered, judge}
-use Rattle.message.proofs.Faults.{passed}
-use Rattle.message.proofs.Going.{read-first}
-use Rattle.message.proofs.Looking.{Some, judge-some}
+use Rattle.message.proofs.Laws.Faults.{passed}
+use Rattle.message.proofs.Laws.Going.{read-first}
+use Rattle.message.proofs.Laws.Looking.{Some, judge-some}
 use Rattle.initiator.specs.declared.sender.Sender.{Sender}
 use Rattle.initiator.specs.declared.sender.Moved.{Moved}
 use Rattle.initiator.specs.declared.outcome.Outcome.{Outcome}

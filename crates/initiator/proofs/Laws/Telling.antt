@@ -22,9 +22,9 @@ use Rattle.message.specs.Walk.{refusal}
 use Rattle.message.specs.Request.{Command, Request, Reading, Wrong, Means, before, read, none, Stands}
 use Rattle.message.specs.Answer.{Answered, lookAt, lookTurn, answersFrom}
 use Rattle.word.proofs.Crossing.{length-wordsOf}
-use Rattle.message.proofs.Back.{written-read}
-use Rattle.message.proofs.Standing.{Next, stands-starts, stands-next}
-use Rattle.message.proofs.Looking.{looked, Found, found}
+use Rattle.message.proofs.Laws.Back.{written-read}
+use Rattle.message.proofs.Laws.Standing.{Next, stands-starts, stands-next}
+use Rattle.message.proofs.Laws.Looking.{looked, Found, found}
 use Rattle.initiator.specs.declared.outcome.Ending.{Ending}
 use Rattle.initiator.specs.declared.outcome.Ending.the-variants.{Absent, Ended}
 use Rattle.initiator.specs.declared.outcome.Outcome.{Outcome}

@@ -15,7 +15,7 @@ use Rattle.message.specs.declared.header.Kind.the-variants.{Nop, Write, Read, R
 use Rattle.message.specs.Limits.{limit, limitBytes}
 use Rattle.message.specs.Header.{kindOf, wideOf}
 use Rattle.message.specs.Walk.{refusal, countOk}
-use Rattle.message.proofs.Pieces.{wholeLast, some-pattern}
+use Rattle.message.proofs.Laws.Pieces.{wholeLast, some-pattern}
 use Rattle.initiator.specs.declared.building.Building.{Building}
 use Rattle.initiator.specs.declared.asked.Asked.{Asked}
 use Rattle.initiator.specs.declared.build.Built.{Built}
@@ -23,9 +23,9 @@ use Rattle.initiator.specs.Building.{startOk, byteOf, freshOk, someOk, r
 use Rattle.initiator.specs.Asked.{countBy, countFits, fieldsOk, enablesFit, addressFits, narrowOk, sizeBy, replyBy, roomFits, commandFault}
 use Rattle.initiator.specs.Build.{gives, longOk, opened, begun, addFault, closeFault, grown, shut, added, closed}
 use Rattle.initiator.specs.Reach.{Reached, begins, adds, closes, ReachedExactly}
-use Rattle.initiator.proofs.Passed.{both, unrefused, reached-some, Adds, Closes}
-use Rattle.initiator.proofs.Passed as passed
-use Rattle.initiator.proofs.Shapes.{size, reply, Allowed, Steps, start, more, Some, None, Open, on-some, back, shape-ok, ok-shape}
+use Rattle.initiator.proofs.Laws.Passed.{both, unrefused, reached-some, Adds, Closes}
+use Rattle.initiator.proofs.Laws.Passed as passed
+use Rattle.initiator.proofs.Laws.Shapes.{size, reply, Allowed, Steps, start, more, Some, None, Open, on-some, back, shape-ok, ok-shape}
 
 -- a record's numbers, in the words of the formula
 abbrev Numbers : Building → Type 0

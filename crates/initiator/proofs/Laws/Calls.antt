@@ -16,16 +16,16 @@ use Rattle.message.specs.Limits.{limit}
 use Rattle.message.specs.Header.{kindOf, wideOf, addressBy, addressWords, dataWords, headerFrom}
 use Rattle.message.specs.Walk.{unless}
 use Rattle.message.specs.Request.{addressIn, addressTop, commandWords}
-use Rattle.message.proofs.Headers.{data-le}
-use Rattle.message.proofs.Round.{address-long}
-use Rattle.message.proofs.Pieces.{address-none, address-one, address-two, top-none, top-one, top-two, command-pieces}
+use Rattle.message.proofs.Laws.Headers.{data-le}
+use Rattle.message.proofs.Laws.Round.{address-long}
+use Rattle.message.proofs.Laws.Pieces.{address-none, address-one, address-two, top-none, top-one, top-two, command-pieces}
 use Rattle.initiator.specs.declared.building.Building.{Building}
 use Rattle.initiator.specs.declared.asked.Asked.{Asked}
 use Rattle.initiator.specs.Building.{byteOf}
 use Rattle.initiator.specs.Asked.{countBy, byte1By, addressSent, carriedBy, commandBy, enablesFit, addressFits, narrowOk, sizeBy, commandFault}
 use Rattle.initiator.specs.declared.build.Built.{Built}
 use Rattle.initiator.specs.Build.{gives, usable, addFault, closeFault, grown, shut, lastSet, added, addedTo, closed, closedTo}
-use Rattle.initiator.proofs.Passed.{Adds, adds}
+use Rattle.initiator.proofs.Laws.Passed.{Adds, adds}
 
 -- a check that passes
 unless-on : (ok : Bool) (n x : ℕ) → ok ≡ true → x ≡ unless ok n x

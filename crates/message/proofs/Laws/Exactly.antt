@@ -20,9 +20,9 @@ use Rattle.message.specs.Header.{kindOf, byte0Of, byte1Of, countOf, rese
 use Rattle.message.specs.Walk.{refusal, asks, countOk, enablesOk, endsOk, unless, faultOf, stepOn}
 use Rattle.message.specs.Request.{Command, Request, Reading, Wrong, Means, commandOf, before, turn, commandsFrom, replies, ended, lengthOk, read, commandWords, requestWords, written, FitsCommand, All, FitsAsked, Fits}
 use Rattle.message.specs.Refusals.{openWords, faultIn, FaultAfter, TooLong, Exactly}
-use Rattle.message.proofs.Faults.{Sound, sound, step-refused, no-mean, same-number, before-wrong}
-use Rattle.message.proofs.Round.{one-back, read-asked, read-written}
-use Rattle.message.proofs.Back.{one-fits, one-is, Backed, commands-backed, Right, right, written-read}
+use Rattle.message.proofs.Laws.Faults.{Sound, sound, step-refused, no-mean, same-number, before-wrong}
+use Rattle.message.proofs.Laws.Round.{one-back, read-asked, read-written}
+use Rattle.message.proofs.Laws.Back.{one-fits, one-is, Backed, commands-backed, Right, right, written-read}
 
 -- no fault, or one of 3 to 9
 abbrev Walks : ℕ → Type 0

@@ -11,7 +11,7 @@ use Rattle.completer.specs.declared.serving.Verdict.the-variants.{Refuse
 use Rattle.completer.specs.Carrying.{asked}
 use Rattle.completer.specs.Serving.{verdictOf, answerBy, afterBy, after}
 use Rattle.completer.specs.Called.{Unchanged, RefusalKeeps, NewStores, RepeatSends, DiscoveryKeeps}
-use Rattle.completer.proofs.Verdicts.{again-fits}
+use Rattle.completer.proofs.Laws.Verdicts.{again-fits}
 
 module _ (m s o : List ℕ) (t : TagRecord) (dg : List ℕ) where
   pub refusal-keeps : RefusalKeeps m s o t dg

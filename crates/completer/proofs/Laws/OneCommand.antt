@@ -16,14 +16,14 @@ use Rattle.message.specs.Limits.{limit}
 use Rattle.message.specs.Header.{kindOf, firstOf, finalOf, countOf, lastOf, headerFrom, addressWords, dataWords, replyWords}
 use Rattle.message.specs.Walk.{countOk}
 use Rattle.message.specs.Request.{Command}
-use Rattle.message.proofs.Answering.{answered-is}
+use Rattle.message.proofs.Laws.Answering.{answered-is}
 use Rattle.completer.specs.declared.carrying.Task.{Task}
 use Rattle.completer.specs.declared.carrying.Carried.{Carried}
 use Rattle.completer.specs.Moves.{outside, fails, stores, movesOf, afterMoves}
 use Rattle.completer.specs.Answers.{advertisement, okWords, answerOf}
 use Rattle.completer.specs.Carrying.{Puts, Room, commandAt, Here, CarriesOne, CarriesAt, FailsThere}
-use Rattle.completer.proofs.Moving.{within, command-quiet}
-use Rattle.completer.proofs.Putting.{puts-more}
+use Rattle.completer.proofs.Laws.Moving.{within, command-quiet}
+use Rattle.completer.proofs.Laws.Putting.{puts-more}
 
 -- what is known of a count, by kind
 abbrev pub Counted : Kind → ℕ → Type 0

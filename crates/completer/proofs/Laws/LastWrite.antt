@@ -15,10 +15,10 @@ use Rattle.message.specs.declared.header.Kind.{Kind}
 use Rattle.message.specs.declared.header.Kind.the-variants.{Write}
 use Rattle.message.specs.Header.{kindOf, firstOf, finalOf, dataWords}
 use Rattle.message.specs.Request.{Command, Request, FitsCommand, All, Fits}
-use Rattle.message.proofs.Answering.{all-first, all-rest}
+use Rattle.message.proofs.Laws.Answering.{all-first, all-rest}
 use Rattle.completer.specs.Moves.{fails, Store, storesBehind, stores, movesOf, moves, moved, afterMoves, memoryAfter}
 use Rattle.completer.specs.Promises.{carried, enablesAt, enables, anyEnables, byteAt, LastWrite}
-use Rattle.completer.proofs.Moving.{after-append, length-after, within}
+use Rattle.completer.proofs.Laws.Moving.{after-append, length-after, within}
 
 -- the words behind a write's first: each word of memory outside stays, each inside is merged once
 behind-other : (m : List ℕ) (at final : ℕ) (ws : List ℕ) (i : ℕ) → ((j : ℕ) → j < length ws → i ≡ at + j → ⊥)
