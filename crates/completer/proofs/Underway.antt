@@ -179,6 +179,9 @@ module _ {t : Task} {r : Request} {ws m₀ s₀ o₀ m s o : List ℕ} {at n : �
     put = puts-more (g .puts) (did .puts) (omega (arith, g .counted)) (omega (arith, F-long, a-short, left, g .counted, g .room .stored))
         (omega (arith, F-long, a-short, left, g .counted, g .room .output))
 
+    pub short : d .words ≤ limit
+    short = omega (arith, did .words, a-short, left)
+
     memory : afterMoves m (moves (t .kind) (length m) (turn .c ∷ turn .cs)) ≡ memoryAfter r m₀
     memory = rw (← turn .is) (g .memory)
 

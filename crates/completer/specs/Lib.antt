@@ -3,3 +3,7 @@ pub mod Moves
 pub mod Answers
 pub mod Carrying
 pub mod Promises
+pub mod Tags
+pub mod Serving
+pub mod BenchSheet
+pub mod Called

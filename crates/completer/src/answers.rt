@@ -13,7 +13,7 @@ use message::answer::Status;
 use message::header;
 
 // The header of one command's answer.
-pub fn head(byte: u32, status: Status, count: usize, last: bool) -> u32
+pub(crate) fn head(byte: u32, status: Status, count: usize, last: bool) -> u32
     requires { ⌜ (byte < 256) × (count < 4096) ⌝ }
     ensures { λ r. ⌜ r ≡ headerFrom byte (codeOf status) count last ⌝ }
 {
@@ -43,7 +43,7 @@ fn keep_words(stored: &mut [u32], keep: bool, n: usize, words: &[u32])
 }
 
 // One word of the answer.
-pub fn put_both(stored: &mut [u32], output: &mut [u8], keep: bool, n: usize, w: u32)
+pub(crate) fn put_both(stored: &mut [u32], output: &mut [u8], keep: bool, n: usize, w: u32)
     requires { ⌜ (n < length (now stored)) × (4 * n + 4 ≤ length (now output)) ⌝ }
     ensures { λ _. ⌜ Puts keep n (w ∷ []) (now (stored .entry)) (now (output .entry)) (now (stored .exit)) (now (output .exit)) ⌝ }
 {
@@ -52,7 +52,7 @@ pub fn put_both(stored: &mut [u32], output: &mut [u8], keep: bool, n: usize, w: 
 }
 
 // A run of words of the answer.
-pub fn put_run(stored: &mut [u32], output: &mut [u8], keep: bool, n: usize, words: &[u32])
+pub(crate) fn put_run(stored: &mut [u32], output: &mut [u8], keep: bool, n: usize, words: &[u32])
     requires { ⌜ (length (now words) ≤ longest) × (n + length (now words) ≤ length (now stored)) × (4 * (n + length (now words)) ≤ length (now output)) ⌝ }
     ensures { λ _. ⌜ Puts keep n (now (words .entry)) (now (stored .entry)) (now (output .entry)) (now (stored .exit)) (now (output .exit)) ⌝ }
 {
@@ -61,7 +61,7 @@ pub fn put_run(stored: &mut [u32], output: &mut [u8], keep: bool, n: usize, word
 }
 
 // The first `count` words of the advertisement: the limit in bytes, then `mark`.
-pub fn put_advert(
+pub(crate) fn put_advert(
     stored: &mut [u32],
     output: &mut [u8],
     keep: bool,

@@ -1,6 +1,6 @@
 // Carrying out a message: each command by its kind, and the loop over the commands.
 ghost use mathlib.Core.Path.{_≡_};
-ghost use Prim.Native.Nat.{_<_};
+ghost use Prim.Native.Nat.{_<_, _≤_};
 ghost use lib.ListN.{length};
 ghost use Rattle.word.specs.Words.{wordsOf};
 ghost use Rattle.message.specs.declared.header.Kind.the-variants.{Nop, Write, Read};
@@ -220,7 +220,7 @@ fn carry_one(
 
 // An accepted message, whose byte 0 is this: each command in order, up to the last or the first that fails. `mark` is word 1 of the
 // advertisement. The answer's words are counted, and stand at the front of the output and, if `keep`, of the stored words.
-pub fn carry(
+pub(crate) fn carry(
     memory: &mut [u32],
     stored: &mut [u32],
     output: &mut [u8],
@@ -232,6 +232,7 @@ pub fn carry(
     requires { ⌜ (read (now datagram) ≡ Means (asked (now datagram))) × (byte0 ≡ asked (now datagram) .byte0) × Room (now stored) (now output) ⌝ }
     ensures { λ r. ⌜ Carries (asked (now (datagram .entry))) mark keep (now (memory .entry)) (now (stored .entry)) (now (output .entry)) r
         (now (memory .exit)) (now (stored .exit)) (now (output .exit)) ⌝ }
+    ensures within { λ r. ⌜ r ≤ limit ⌝ }
 {
     let task = Task {
         byte0,

@@ -4,3 +4,5 @@
 pub mod answers;
 pub mod carrying;
 pub mod moves;
+pub mod serving;
+pub mod tags;

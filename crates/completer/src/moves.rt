@@ -9,7 +9,7 @@ use message::header;
 
 // Whether a read or write fails: its address is not a multiple of 4, or a word of its range lies past the end of memory, which has
 // `size` words. Nothing wraps: the sum is made in 64 bits, of word numbers.
-pub fn outside(size: usize, address: u64, count: usize) -> bool
+pub(crate) fn outside(size: usize, address: u64, count: usize) -> bool
     requires { ⌜ count < 4096 ⌝ }
     ensures { λ r. ⌜ r ≡ outside size address count ⌝ }
 {
@@ -20,7 +20,7 @@ pub fn outside(size: usize, address: u64, count: usize) -> bool
 }
 
 // One word, under byte enables.
-pub fn store(memory: &mut [u32], at: usize, w: u32, enables: u32)
+pub(crate) fn store(memory: &mut [u32], at: usize, w: u32, enables: u32)
     requires { ⌜ at < length (now memory) ⌝ }
     ensures { λ _. ⌜ now (memory .exit) ≡ moved (now (memory .entry)) (Store at w enables) ⌝ }
 {
@@ -28,7 +28,7 @@ pub fn store(memory: &mut [u32], at: usize, w: u32, enables: u32)
 }
 
 // A write of two words or more, from word `at` on: a first and a last word are merged, what lies between is copied.
-pub fn store_words(
+pub(crate) fn store_words(
     memory: &mut [u32],
     at: usize,
     datagram: &[u8],

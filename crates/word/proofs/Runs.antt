@@ -49,6 +49,11 @@ staged l s n h e = rw e (take-at (take n s) (drop (0 + length (take n s)) l) n (
 pub staged-all : (l s : List ℕ) {t : List ℕ} → t ≡ put l 0 (take (length s) s) → take (length s) t ≡ s
 staged-all l s e = staged l s (length s) (omega arith) e ∙ take-length s
 
+-- and so is a whole run
+pub put-front : (l s : List ℕ) → take (length s) (put l 0 s) ≡ s
+unfolding put
+put-front l s = take-at s (drop (0 + length s) l) (length s) refl
+
 -- a turn of a loop that puts the elements of s one by one
 module _ (l : List ℕ) (at : ℕ) (s : List ℕ) (i : ℕ) (h : i < length s) (k : at + i < length l) where
   pub put-next : put (put l at (take i s)) (at + i) (getD s i 0 ∷ []) ≡ put l at (take (i + 1) s)

@@ -7,7 +7,7 @@ use lib.ListN.{length}
 use Rattle.word.specs.Words.{wordsOf}
 use Rattle.word.proofs.Runs.{below-all}
 use Rattle.completer.specs.Carrying.{Room, asked}
-use Rattle.completer.proofs.Underway.{Underway, starts, here-at, ends, goes, nearer}
+use Rattle.completer.proofs.Underway.{Underway, starts, here-at, ends, short, goes, nearer}
 use Rattle.completer.proofs.carrying.carry.Statement.{statement}
 use Rattle.completer.proofs.carrying.carry.Tie as tie
 
@@ -54,7 +54,7 @@ same-length-3 : tie.Need-same-length-3 Inv-loop μ-loop
 same-length-3 c = omega (arith, c .before .before .before .before .before .before .before .carry-one .kept .1 .1 .0, c .before .before .before .before .before .before .before .before .before .before .before .loop .inv .3)
 
 returns : tie.Need-returns Inv-loop μ-loop
-returns c = ends (c .before .before .before .before .before .before .before .before .before .before .before .loop .inv .0) (c .before .before .before .before .before .before .before .carry-one .ensures) (c .if1 .taken)
+returns c = (ends (c .before .before .before .before .before .before .before .before .before .before .before .loop .inv .0) (c .before .before .before .before .before .before .before .carry-one .ensures) (c .if1 .taken), short (c .before .before .before .before .before .before .before .before .before .before .before .loop .inv .0) (c .before .before .before .before .before .before .before .carry-one .ensures))
 
 loop-less : tie.Need-loop-less Inv-loop μ-loop
 loop-less c = nearer (c .before .before .before .before .before .before .before .before .before .before .before .loop .inv .0) (c .before .before .before .before .before .before .before .carry-one .ensures) (c .if1 .left)

@@ -1,0 +1,57 @@
+-- `completer::serving::act` meets its contract: the message is carried out, and the record follows. Assumes nothing.
+use mathlib.Core.Path.{_∙_}
+use native.Mathlib.Omega.{arith}
+use Rattle.message.proofs.Going.{read-first}
+use Rattle.completer.proofs.Verdicts.{acted}
+use borrow.Author.Needs.{needs}
+use Rattle.completer.proofs.serving.act.Statement.{statement}
+use Rattle.completer.proofs.serving.act.Tie as tie
+
+shared-slice-read-wide : tie.Need-shared-slice-read-wide
+shared-slice-read-wide c = read-first (c .before .before .before .before .before .args .datagram .now) _ (c .before .before .before .before .before .pre .0) .0 .some
+
+wide-requires : tie.Need-wide-requires
+wide-requires c κs = search needs
+
+mark-requires : tie.Need-mark-requires
+mark-requires c κs = search needs
+
+carry-requires : tie.Need-carry-requires
+carry-requires c κs =
+    let a = c .before .before .before .before .before .before .before .before .before .before in
+    (a .pre .0, c .before .before .before .before .wide .ensures .0 ∙ read-first (a .args .datagram .now) _ (a .pre .0) .1, a .pre .2)
+
+mul-t19 : tie.Need-mul-t19
+mul-t19 c = search needs
+
+record-after-requires : tie.Need-record-after-requires
+record-after-requires c κs = search needs
+
+same-length : tie.Need-same-length
+same-length c = search needs
+
+same-length-2 : tie.Need-same-length-2
+same-length-2 c = search needs
+
+same-length-3 : tie.Need-same-length-3
+same-length-3 c = search needs
+
+returns : tie.Need-returns
+returns c =
+    let a = c .before .before .before .before .before .before .before .before .before .before .before .before .before .before .before .before .before .before in
+    acted (a .args .keep) (c .before .before .before .before .before .before .before .before .before .before .before .before .wide .ensures .0 ∙ read-first (a .args .datagram .now) _ (a .pre .0) .1) (c .before .before .before .before .before .before .before .before .mark .ensures) (c .before .before .before .before .before .before .before .carry .ensures .0) (c .record-after .ensures)
+
+pub act-spec : {M : Type 1} → statement M
+act-spec =
+    tie.close
+    (tie.spec
+    shared-slice-read-wide
+    wide-requires
+    mark-requires
+    carry-requires
+    mul-t19
+    record-after-requires
+    same-length
+    same-length-2
+    same-length-3
+    returns)

@@ -1,0 +1,97 @@
+-- The bench sheet: its marked lines as one statement over one list, from bytes. `proofs/Benched.antt` computes it. Assumes nothing.
+use Prim.Native.Nat.{ℕ}
+use mathlib.Core.Path.{_≡_}
+use mathlib.Core.Bool.{Bool, true, false, _&&_, Bool·beq}
+use mathlib.Core.List.{List, [], _∷_}
+use lib.Dec.{eqb}
+use lib.ListN.{take, replicate}
+use Rattle.word.specs.Words.{bytesOf}
+use Rattle.message.specs.Limits.{limit, limitBytes}
+use Rattle.completer.specs.declared.tags.TagRecord.{TagRecord}
+use Rattle.completer.specs.declared.serving.Verdict.the-variants.{Refused}
+use Rattle.message.specs.Walk.{refusal}
+use Rattle.completer.specs.Tags.{freshRecord}
+use Rattle.completer.specs.Serving.{After, afterBy, after}
+
+-- "Memory of 8 zero words but word 4 = F00DFACE"
+abbrev pub benchMemory : List ℕ
+benchMemory = 0 ∷ 0 ∷ 0 ∷ 0 ∷ 0xF00DFACE ∷ 0 ∷ 0 ∷ 0 ∷ []
+
+-- a record that holds a tag and the length of its answer
+abbrev pub holding : ℕ → ℕ → TagRecord
+holding tag words = record { fresh = false; tag = tag; words = words }
+
+-- a line of the sheet: the record at first, the datagrams in turn, and after the last one the refusal (0: none), all words sent,
+-- the whole memory and the record
+pub record Line : Type 0 where
+  pub start : TagRecord
+  pub datagrams : List (List ℕ)
+  pub number : ℕ
+  pub words : List ℕ
+  pub memory : List ℕ
+  pub tags : TagRecord
+
+abbrev pub line : TagRecord → List (List ℕ) → ℕ → List ℕ → List ℕ → TagRecord → Line
+line start datagrams number words memory tags =
+    record { start = start; datagrams = datagrams; number = number; words = words; memory = memory; tags = tags }
+
+-- one call after another, each lent what the last one left
+unfoldable pub plays : After → List (List ℕ) → After
+plays a [] = a
+plays a (d ∷ ds) = plays (after (a .memory) (a .stored) (a .output) (a .served .tags) (bytesOf d)) ds
+
+unfoldable pub same : List ℕ → List ℕ → Bool
+same [] [] = true
+same [] (y ∷ ys) = false
+same (x ∷ xs) [] = false
+same (x ∷ xs) (y ∷ ys) = eqb x y && same xs ys
+
+unfoldable pub sameRecord : TagRecord → TagRecord → Bool
+sameRecord a b = Bool·beq (a .fresh) (b .fresh) && eqb (a .tag) (b .tag) && eqb (a .words) (b .words)
+
+-- what is there at first: nothing stored, nothing in the output
+unfoldable pub benchStart : TagRecord → After
+benchStart tags = afterBy (Refused (refusal 0)) benchMemory (replicate limit 0) (replicate limitBytes 0) tags (record { byte0 = 0; commands = [] })
+
+unfoldable pub right : Line → Bool
+right l =
+    let a = plays (benchStart (l .start)) (l .datagrams) in
+    eqb (a .served .refusal .number) (l .number) && same (take (a .served .sent) (a .output)) (bytesOf (l .words)) && same (a .memory) (l .memory)
+    && sameRecord (a .served .tags) (l .tags)
+
+unfoldable pub every : List Line → Bool
+every [] = true
+every (l ∷ ls) = right l && every ls
+
+-- (a) of the list, and a discovery write of 0 to word 1
+abbrev pub writeFeed : List ℕ
+writeFeed = 0x80010F10 ∷ 0x00000004 ∷ 0xFEEDC0DE ∷ []
+
+abbrev pub discoverZero : List ℕ
+discoverZero = 0x80010F90 ∷ 0x00000004 ∷ 0x00000000 ∷ []
+
+-- memory with these two words at its front
+abbrev pub memoryWith : ℕ → ℕ → List ℕ
+memoryWith u v = u ∷ v ∷ 0 ∷ 0 ∷ 0xF00DFACE ∷ 0 ∷ 0 ∷ 0 ∷ []
+
+-- the marked lines, in order
+unfoldable pub benchSheet : List Line
+benchSheet =
+    line freshRecord ((0x80010080 ∷ 0x00000004 ∷ []) ∷ []) 0 (0x800100B0 ∷ 0x000005C0 ∷ []) benchMemory freshRecord
+    ∷ line freshRecord ((0x800100A0 ∷ 0x00000010 ∷ []) ∷ []) 0 (0x800100B0 ∷ 0xF00DFACE ∷ []) benchMemory freshRecord
+    ∷ line freshRecord ((0x80010F90 ∷ 0x00000004 ∷ 0xFEEDC0DE ∷ []) ∷ []) 0 (0x800000B0 ∷ []) (memoryWith 0 0xFEEDC0DE) freshRecord
+    ∷ line freshRecord (writeFeed ∷ []) 0 (0x80000030 ∷ []) (memoryWith 0 0xFEEDC0DE) (holding 0 1)
+    ∷ line freshRecord (writeFeed ∷ discoverZero ∷ writeFeed ∷ []) 0 (0x80000030 ∷ []) benchMemory (holding 0 1)
+    ∷ line freshRecord (writeFeed ∷ discoverZero ∷ writeFeed ∷ (0x80010411 ∷ 0x00000004 ∷ 0xAABBCCDD ∷ []) ∷ []) 0 (0x80000031 ∷ [])
+    (memoryWith 0 0x00BB0000) (holding 1 1)
+    ∷ line freshRecord (writeFeed ∷ (0x80010F12 ∷ 0x00000004 ∷ 0x00000000 ∷ []) ∷ []) 11 [] (memoryWith 0 0xFEEDC0DE) (holding 0 1)
+    ∷ line (holding 15 1) (writeFeed ∷ []) 0 (0x80000030 ∷ []) (memoryWith 0 0xFEEDC0DE) (holding 0 1)
+    ∷ line freshRecord ((0x80020020 ∷ 0x0000001C ∷ []) ∷ []) 0 (0x80000230 ∷ []) benchMemory (holding 0 1)
+    ∷ line freshRecord ((0x00010F10 ∷ 0x00000000 ∷ 0x11111111 ∷ 0x80010F10 ∷ 0x00000020 ∷ 0x22222222 ∷ []) ∷ []) 0 (0x00000030 ∷ 0x80000230 ∷ [])
+    (memoryWith 0x11111111 0) (holding 0 2)
+    ∷ line freshRecord ((0x80010F50 ∷ 0x00000004 ∷ 0x00000001 ∷ 0x00000000 ∷ []) ∷ []) 0 (0x80000270 ∷ []) benchMemory (holding 0 1)
+    ∷ []
+
+-- every marked line holds
+abbrev pub BenchHolds : Type 0
+BenchHolds = every benchSheet ≡ true

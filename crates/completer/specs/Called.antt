@@ -1,0 +1,58 @@
+-- What is promised of a call, each about one thing, for whoever stands above it. The proofs are in proofs/Calls.antt and
+-- proofs/Discovered.antt. Assumes nothing.
+use Prim.Native.Nat.{ℕ}
+use mathlib.Core.Path.{_≡_}
+use mathlib.Core.Bool.{true}
+use mathlib.Core.List.{List, [], _∷_}
+use lib.ListN.{length, take}
+use Rattle.word.specs.Words.{bytesOf, putWords}
+use Rattle.message.specs.Limits.{limitBytes}
+use Rattle.completer.specs.declared.tags.TagRecord.{TagRecord}
+use Rattle.completer.specs.declared.serving.Verdict.the-variants.{New, Repeat, Discovery}
+use Rattle.completer.specs.Tags.{markOf, lentOk, keptOk}
+use Rattle.completer.specs.Carrying.{asked}
+use Rattle.completer.specs.Serving.{After, verdictOf, answerBy, after, sent}
+
+-- "Each gives its number and length 0; memory, stored answer, record and output are unchanged"
+pub record Unchanged (m s o : List ℕ) (t : TagRecord) (a : After) : Type 0 where
+  pub sent : a .served .sent ≡ 0
+  pub tags : a .served .tags ≡ t
+  pub memory : a .memory ≡ m
+  pub stored : a .stored ≡ s
+  pub output : a .output ≡ o
+
+abbrev pub RefusalKeeps : List ℕ → List ℕ → List ℕ → TagRecord → List ℕ → Type 0
+RefusalKeeps m s o t dg = (after m s o t dg .served .refusal .number ≡ 0 → ⊥) → Unchanged m s o t (after m s o t dg)
+
+-- "The next tag, modulo 16, is new: carry out, store tag and answer": what is stored is the answer, and the answer is sent
+pub record Stored (t : TagRecord) (answer : List ℕ) (a : After) : Type 0 where
+  pub stored : take (a .served .tags .words) (a .stored) ≡ answer
+  pub sent : take (a .served .sent) (a .output) ≡ bytesOf answer
+
+abbrev pub NewStores : List ℕ → List ℕ → List ℕ → TagRecord → List ℕ → Type 0
+NewStores m s o t dg = verdictOf (length m) (length s) (length o) t dg ≡ New → Stored t (answerBy t (asked dg) m) (after m s o t dg)
+
+-- "the stored tag is a repeat: the stored answer is sent, nothing else happens"
+pub record SentAgain (m s : List ℕ) (t : TagRecord) (a : After) : Type 0 where
+  pub sent : take (a .served .sent) (a .output) ≡ bytesOf (take (t .words) s)
+  pub tags : a .served .tags ≡ t
+  pub memory : a .memory ≡ m
+  pub stored : a .stored ≡ s
+
+abbrev pub RepeatSends : List ℕ → List ℕ → List ℕ → TagRecord → List ℕ → Type 0
+RepeatSends m s o t dg = verdictOf (length m) (length s) (length o) t dg ≡ Repeat → SentAgain m s t (after m s o t dg)
+
+-- "the message is carried out, and tag and stored answer stay"
+abbrev pub DiscoveryKeeps : List ℕ → List ℕ → List ℕ → TagRecord → List ℕ → Type 0
+DiscoveryKeeps m s o t dg =
+    verdictOf (length m) (length s) (length o) t dg ≡ Discovery → (after m s o t dg .served .tags ≡ t) × (after m s o t dg .stored ≡ s)
+
+-- "the fixed discovery 80020080 000005C0 00000000"
+unfoldable pub fixedDiscovery : List ℕ
+fixedDiscovery = bytesOf (0x80020080 ∷ 0x000005C0 ∷ 0x00000000 ∷ [])
+
+-- the answer to it depends on the stored tag alone
+abbrev pub DiscoveryAnswered : List ℕ → List ℕ → List ℕ → TagRecord → Type 0
+DiscoveryAnswered m s o t =
+    lentOk (length m) (length o) ≡ true → keptOk (length s) t ≡ true
+    → after m s o t fixedDiscovery ≡ record { served = sent 3 t; memory = m; stored = s; output = putWords o 0 (0x800200B0 ∷ limitBytes ∷ markOf t ∷ []) }
