@@ -4,3 +4,4 @@
 pub mod Outcomes
 pub mod Ends
 pub mod Terms
+pub mod Sight

@@ -65,11 +65,7 @@ found byte0 count last ws at s e = go (ltb at (length ws)) refl (eqb (answerFaul
   where
     go : (a : Bool) → ltb at (length ws) ≡ a → (b : Bool) → eqb (answerFault byte0 count last (getD ws at 0) (length ws - at - 1)) 0 ≡ b
         → cond a (cond b (Item (seenOf (getD ws at 0))) (Bad (refusal (answerFault byte0 count last (getD ws at 0) (length ws - at - 1))))) (Bad (refusal 35)) ≡ Item s
-<<<<<<< HEAD
         → Found byte0 count last ws at s
-=======
-        → Found ws at last s
->>>>>>> 484d38e95f2c265e2600290581a54e9ca2404065
     go false z b y e = let n : _≡_ {A = ℕ} 0 1 = cc in absurd (omega arith)
     go true z false y e = let n : _≡_ {A = ℕ} 0 1 = cc in absurd (omega arith)
     go true z true y e =
