@@ -5,3 +5,4 @@ pub mod Outcomes
 pub mod Ends
 pub mod Terms
 pub mod Sight
+pub mod Promise
