@@ -8,3 +8,5 @@ pub mod Controller
 pub mod Sender
 pub mod Codec
 pub mod AnswerBytes
+pub mod Checked
+pub mod Example

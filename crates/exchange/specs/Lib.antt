@@ -6,3 +6,4 @@ pub mod Ends
 pub mod Terms
 pub mod Sight
 pub mod Promise
+pub mod Example
