@@ -56,7 +56,7 @@ answer-is {c} d =
     let e = d .earlier in
     let a = discovery-answered (e .memory) (e .stored) (d .lent) (e .tags) (lent-ok e (d .lent) (d .sound) (d .long)) (kept-ok e (d .lent) (d .sound) (d .long)) in
     let g : sentIn (serving e (d .lent) discoveryBytes) ≡ some (bytesOf (0x800200B0 ∷ limitBytes ∷ markOf (e .tags) ∷ [])) =
-        ap (λ (x : List ℕ). sentIn (serving e (d .lent) x)) same-discovery ∙ ap sentIn a ∙ ap some (words-front (d .lent) (0x800200B0 ∷ limitBytes ∷ markOf (e .tags) ∷ [])) in
+    ap (λ (x : List ℕ). sentIn (serving e (d .lent) x)) same-discovery ∙ ap sentIn a ∙ ap some (words-front (d .lent) (0x800200B0 ∷ limitBytes ∷ markOf (e .tags) ∷ [])) in
     Option·some-injective _ _ (sym (d .given) ∙ g) ∙ ap (λ (t : TagRecord). bytesOf (0x800200B0 ∷ limitBytes ∷ markOf t ∷ [])) (d .since)
 
 pub begins : (c : Controller) (s : Loader) → Begins c s → Start ends terms sight c s

@@ -229,10 +229,9 @@ module _ (c : Controller) (b : List ℕ) (h : Sound c) (l : Lendable b) where
       → ((ends .serve c b d) .1 ≡ answerIn (storedBy c)) × Kept ends terms sight c ((ends .serve c b d) .0)
   does-again {d} p v =
       let e = serving-is c b h l d Repeat (judged-is c p again v) in
-      let s = repeat-sends (c .memory) (c .stored) b (c .tags) d (verdict-is c b h l d ∙ judged-is c p again v) in
-      (
+      let s = repeat-sends (c .memory) (c .stored) b (c .tags) d (verdict-is c b h l d ∙ judged-is c p again v) in (
         subst (λ (a : After). take (a .served .sent) (a .output) ≡ bytesOf (take (c .tags .words) (c .stored)) → sentIn a ≡ answerIn (storedBy c)) (sym e)
-        (λ q. ap some q ∙ answer-stored c (tagOf (getD d 0 0)) v) (s .sent),
+            (λ q. ap some q ∙ answer-stored c (tagOf (getD d 0 0)) v) (s .sent),
         subst (λ (a : After). Kept ends terms sight c (controllerIn a)) (sym e) (kept-same c h),
       )
 
@@ -256,8 +255,7 @@ module _ (c : Controller) (b : List ℕ) (h : Sound c) (l : Lendable b) where
 
   found : (x : List ℕ) (r : Request) → Finds x → read x ≡ Means r → (discoveryOf (r .byte0) ≡ true) × (kindOf (r .byte0) ≡ Write → ⊥) → Quietly x (serving c b x)
   found x r f e q =
-      subst (Quietly x) (sym (serving-is c b h l x Discovery (ap (judged (c .tags)) e ∙ finds)))
-      (
+      subst (Quietly x) (sym (serving-is c b h l x Discovery (ap (judged (c .tags)) e ∙ finds))) (
         record {
           sound = subst (λ (m : List ℕ). Sound (record { memory = m; stored = c .stored; tags = c .tags })) (sym same) h;
           memory = same;
@@ -265,13 +263,13 @@ module _ (c : Controller) (b : List ℕ) (h : Sound c) (l : Lendable b) where
           last = λ d u. u;
         },
         λ y z.
-        record {
-          request = asked x;
-          fits = fits;
-          finds = rw is (q .0);
-          items = items c h (asked x) fits;
-          encodes = subst (Encodes (asked x) (items c h (asked x) fits)) (sym (words-front b (words c h (asked x) fits)) ∙ Option·some-injective _ _ z) (encodes c h (asked x) fits);
-        },
+            record {
+              request = asked x;
+              fits = fits;
+              finds = rw is (q .0);
+              items = items c h (asked x) fits;
+              encodes = subst (Encodes (asked x) (items c h (asked x) fits)) (sym (words-front b (words c h (asked x) fits)) ∙ Option·some-injective _ _ z) (encodes c h (asked x) fits);
+            },
       )
     where
       is : asked x ≡ r
