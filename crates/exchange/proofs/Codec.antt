@@ -1,0 +1,97 @@
+-- What crosses the channel: a plain message is read as it was written, its own answer is judged to say its outcome, and any other
+-- answer is 33. The facts of both ends cite these. Assumes nothing.
+use Prim.Native.Nat.{ℕ}
+use mathlib.Core.Path.{_≡_, refl, sym, ap, _∙_}
+use mathlib.Core.Bool.{Bool, true, false}
+use mathlib.Core.List.{List, [], _∷_}
+use native.Mathlib.Decide.{ℕ-discrete}
+use lib.ListN.{length, getD}
+use Rattle.message.specs.declared.header.Kind.{Kind}
+use Rattle.message.specs.Header.{tagOf, kindOf, discoveryOf}
+use Rattle.message.specs.Walk.{refusal}
+use Rattle.message.specs.Request.{Request, Reading, Wrong, Means, read, lengthOk, Fits}
+use Rattle.message.specs.Answer.{Answered, answerByte, judge}
+use Rattle.message.proofs.Laws.Faults.{no-mean}
+use Rattle.message.proofs.Laws.Back.{written-read}
+use Rattle.message.proofs.Laws.Going.{read-first}
+use Rattle.message.proofs.Laws.Judged.{judge-encoded, other-byte}
+use Rattle.message.proofs.Laws.Looking.{judge-long}
+use Rattle.completer.specs.Carrying.{asked}
+use Rattle.initiator.specs.Outcome.{answerTo, endingAt, dataAt}
+use Rattle.exchange.specs.Outcomes.{Outcome, each, toldAt, told, resultsIn}
+use Rattle.exchange.specs.Sight.{Plain, Encodes, Answers, Strange}
+use Rattle.exchange.proofs.AnswerBytes.{answer-tag, answer-finds}
+
+-- a plain message asks for its request, which fits; its first byte is byte 0
+module _ {d : List ℕ} (p : Plain d) where
+  pub asked-is : asked d ≡ p .request
+  unfolding asked
+  asked-is = rw (p .is)
+
+  pub plain-fits : Fits (p .request)
+  plain-fits = written-read d (p .request) (p .bytes) (p .is) .0
+
+  pub asked-fits : Fits (asked d)
+  asked-fits = rw asked-is plain-fits
+
+  pub first-is : getD d 0 0 ≡ p .request .byte0
+  first-is = read-first d (p .request) (p .is) .1
+
+  pub first-clear : discoveryOf (getD d 0 0) ≡ false
+  first-clear = ap discoveryOf first-is ∙ p .clear
+
+  -- 31 lets it by, so an answer is judged
+  pub judged-by : (a : List ℕ) → answerTo (read d) a ≡ judge (p .request) a
+  unfolding answerTo
+  judged-by a = rw (p .is, p .clear)
+
+-- an answer that may be given to a request is judged to be what it says
+pub encodes-judged : {r : Request} {items : List Answered} {a : List ℕ} → Fits r → Encodes r items a → judge r a ≡ Means items
+encodes-judged {r} {items} f e = ap (judge r) (e .is) ∙ judge-encoded r items f (e .fits)
+
+-- whatever is judged to say something has an allowed length, and byte 0 of the request with kind 3
+pub record Headed (r : Request) (a : List ℕ) : Type 0 where
+  pub long : lengthOk (length a) ≡ true
+  pub first : getD a 0 0 ≡ answerByte (r .byte0)
+
+pub judged-headed : (r : Request) (a : List ℕ) (items : List Answered) → judge r a ≡ Means items → Headed r a
+judged-headed r a items m = go (lengthOk (length a)) refl
+  where
+    by : lengthOk (length a) ≡ true → Dec (getD a 0 0 ≡ answerByte (r .byte0)) → Headed r a
+    by l (yes e) = record { long = l; first = e }
+    by l (no n) = no-mean (sym (other-byte r a l n) ∙ m)
+
+    go : (b : Bool) → lengthOk (length a) ≡ b → Headed r a
+    go true l = by l (ℕ-discrete (getD a 0 0) (answerByte (r .byte0)))
+    go false l = no-mean (sym (judge-long r a l) ∙ m)
+
+-- an answer with another byte 0 is 33
+module _ {d : List ℕ} (p : Plain d) (r : Request) {a : List ℕ} (h : Headed r a) where
+  unlike : (answerByte (r .byte0) ≡ answerByte (p .request .byte0) → ⊥) → answerTo (read d) a ≡ Wrong (refusal 33)
+  unlike n = judged-by p a ∙ other-byte (p .request) a (h .long) (λ e. n (sym (h .first) ∙ e))
+
+  -- of another tag
+  pub other-tag : (tagOf (r .byte0) ≡ tagOf (p .request .byte0) → ⊥) → answerTo (read d) a ≡ Wrong (refusal 33)
+  other-tag n = unlike (λ e. n (sym (answer-tag (r .byte0)) ∙ ap tagOf e ∙ answer-tag (p .request .byte0)))
+
+  -- of a discovery
+  pub other-kind : (discoveryOf (r .byte0) ≡ discoveryOf (p .request .byte0) → ⊥) → answerTo (read d) a ≡ Wrong (refusal 33)
+  other-kind n = unlike (λ e. n (sym (answer-finds (r .byte0)) ∙ ap discoveryOf e ∙ answer-finds (p .request .byte0)))
+
+-- command by command, the outcome functions tell what the answers say
+each-told : (message : List ℕ) (items : List Answered) → each (length items) (toldAt message (Means items)) ≡ resultsIn (kindOf (getD message 0 0)) items
+unfolding each resultsIn endingAt dataAt
+each-told message [] = refl
+each-told message (a ∷ more) = rw (each-told message more)
+
+module _ {d : List ℕ} (p : Plain d) {o : Outcome} {a : List ℕ} (h : Answers d o a) where
+  -- a message's own answer is judged to be the answers given
+  pub own-judged : answerTo (read d) a ≡ Means (h .items)
+  own-judged = judged-by p a ∙ rw (← asked-is p) (encodes-judged (asked-fits p) (h .encodes))
+
+  -- and tells its outcome
+  pub own-told : told d a ≡ o
+  unfolding told
+  own-told =
+      let k : kindOf (asked d .byte0) ≡ kindOf (getD d 0 0) = ap (λ (r : Request). kindOf (r .byte0)) (asked-is p) ∙ ap kindOf (sym (first-is p)) in
+      rw own-judged (each-told d (h .items) ∙ ap (λ (x : Kind). resultsIn x (h .items)) (sym k) ∙ sym (h .says))

@@ -1,0 +1,29 @@
+-- The theorems of specs/Promise.antt. Assumes nothing.
+use Prim.Native.Nat.{ℕ, suc, _≤_}
+use native.Mathlib.Omega.{arith}
+use Rattle.once.proofs.Promise.{finished-or-one-more}
+use Rattle.once.proofs.Tagged.{tagged-safety, tagged-progress, tagged-extends, tagged-says}
+use Rattle.exchange.specs.Promise.{Memory, FinishedOutcomes, AllFinished, NeverStuck, Tags}
+use Rattle.exchange.proofs.Facts.{tagged}
+use Rattle.exchange.proofs.Begins.{begins}
+
+pub memory : Memory
+memory c s b es n =
+    let p = tagged-safety tagged c s (begins c s b) es n in
+    record { k = p .k; is = finished-or-one-more p; offered = p .offered; memory = p .memory }
+
+pub finished-outcomes : FinishedOutcomes
+finished-outcomes c s b es n =
+    let p = tagged-safety tagged c s (begins c s b) es n in
+    record { offered = omega (arith, p .finished-or, p .offered); are = p .outcomes }
+
+pub all-finished : AllFinished
+all-finished c s b = tagged-progress tagged c s (begins c s b)
+
+pub never-stuck : NeverStuck
+never-stuck c s b = tagged-extends tagged c s (begins c s b)
+
+pub tags : Tags
+tags c s b es n =
+    let p = tagged-says tagged c s (begins c s b) es n in
+    record { tags = p .tags; next = p .next }

@@ -1,0 +1,9 @@
+-- What a reader has to believe, and nothing else: definitions only. Read them in this order.
+-- Promise: the theorems. Ends: the two ends and their calls. Terms: messages, memory and what is lent. Outcomes: what an outcome is.
+-- Sight: what the facts behind the theorems look at.
+pub mod Outcomes
+pub mod Ends
+pub mod Terms
+pub mod Sight
+pub mod Promise
+pub mod Example

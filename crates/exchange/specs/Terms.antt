@@ -1,0 +1,57 @@
+-- What the promise says of messages and of what is lent, by the definitions of the two ends. Assumes nothing.
+use Prim.Native.Nat.{ℕ, _≤_}
+use mathlib.Core.Path.{_≡_}
+use mathlib.Core.Bool.{true}
+use mathlib.Core.List.{List}
+use lib.ListN.{length}
+use Rattle.word.specs.Words.{Bytes, Words}
+use Rattle.message.specs.declared.header.Kind.the-variants.{Write}
+use Rattle.message.specs.Limits.{limit, limitBytes}
+use Rattle.message.specs.Header.{kindOf, discoveryOf}
+use Rattle.message.specs.Request.{Request, Reading, Wrong, Means, read}
+use Rattle.completer.specs.Moves.{memoryAfter}
+use Rattle.completer.specs.Carrying.{asked}
+use Rattle.completer.specs.Tags.{mostMemory, recordOk}
+use Rattle.initiator.specs.Sender.{asksAs}
+use Rattle.once.specs.Promise.{Terms}
+use Rattle.exchange.specs.Outcomes.{outcomeOver}
+use Rattle.exchange.specs.Ends.{Controller, Loader, ends}
+
+-- "well-formed messages, no discoveries, each tagged as offering asks": bytes that 31 lets by
+pub record Offers (s : Loader) (message : List ℕ) : Type 0 where
+  pub bytes : Bytes message
+  pub asked : asksAs (s .sender .next) (read message) ≡ true
+
+-- "discoveries without writes", well-formed or refused: what 2 to 10 refuse is nobody's message
+abbrev pub findsOnly : Reading Request → Type 0
+findsOnly (Wrong n) = Unit {0}
+findsOnly (Means r) = (discoveryOf (r .byte0) ≡ true) × (kindOf (r .byte0) ≡ Write → ⊥)
+
+pub record Finds (datagram : List ℕ) : Type 0 where
+  pub bytes : Bytes datagram
+  pub only : findsOnly (read datagram)
+
+-- "an output of at least 1,472 bytes"
+abbrev pub Lendable : List ℕ → Type 0
+Lendable output = limitBytes ≤ length output
+
+abbrev pub terms : Terms ends
+terms =
+    record {
+      Memory = List ℕ;
+      memory = λ c. c .memory;
+      carry = λ memory message. memoryAfter (asked message) memory;
+      outcome = outcomeOver;
+      Fits = Offers;
+      Quiet = Finds;
+      Lendable = Lendable;
+    }
+
+-- An allowed controller: "Memory is a lent run of 1 to 16,384 32-bit words", "a stored answer of at least 368 words", and an allowed
+-- record.
+pub record Sound (c : Controller) : Type 0 where
+  pub words : Words (c .memory)
+  pub some : 1 ≤ length (c .memory)
+  pub most : length (c .memory) ≤ mostMemory
+  pub stored : limit ≤ length (c .stored)
+  pub tags : recordOk (c .tags) ≡ true
