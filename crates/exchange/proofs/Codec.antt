@@ -9,7 +9,7 @@ use lib.ListN.{length, getD}
 use Rattle.message.specs.declared.header.Kind.{Kind}
 use Rattle.message.specs.Header.{tagOf, kindOf, discoveryOf}
 use Rattle.message.specs.Walk.{refusal}
-use Rattle.message.specs.Request.{Request, Reading, Wrong, Means, read, lengthOk, Fits}
+use Rattle.message.specs.Request.{Request, Wrong, Means, read, lengthOk, Fits}
 use Rattle.message.specs.Answer.{Answered, answerByte, judge}
 use Rattle.message.proofs.Faults.{no-mean}
 use Rattle.message.proofs.Back.{written-read}
@@ -19,7 +19,7 @@ use Rattle.message.proofs.Looking.{judge-long}
 use Rattle.completer.specs.Carrying.{asked}
 use Rattle.initiator.specs.Outcome.{answerTo, endingAt, dataAt}
 use Rattle.exchange.specs.Outcomes.{Outcome, each, toldAt, told, resultsIn}
-use Rattle.exchange.specs.Sight.{Plain, Encodes, Answers, Strange}
+use Rattle.exchange.specs.Sight.{Plain, Encodes, Answers}
 use Rattle.exchange.proofs.AnswerBytes.{answer-tag, answer-finds}
 
 -- a plain message asks for its request, which fits; its first byte is byte 0

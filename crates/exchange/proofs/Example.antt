@@ -1,10 +1,8 @@
 -- The night of specs/Example.antt: its premises and its end, computed. Assumes nothing.
-use Prim.Native.Nat.{ℕ}
 use mathlib.Core.Path.{_≡_, refl}
 use mathlib.Core.Bool.{true}
 use mathlib.Core.Logic.{inl, inr}
-use mathlib.Core.List.{List, [], _∷_}
-use native.Mathlib.Omega.{arith}
+use mathlib.Core.List.{[], _∷_}
 use borrow.Author.Tests.{leb-true}
 use lib.ListN.{replicate}
 use Rattle.word.specs.Words.{wordsOf, bytesOf, put, putWords}
@@ -25,8 +23,8 @@ use Rattle.initiator.specs.Sender.{asksAs, offerFault, sendFault, offerOf, send
 use Rattle.once.specs.World.{start}
 use Rattle.exchange.specs.Outcomes.{each, told}
 use Rattle.exchange.specs.Ends.{Controller, ends}
-use Rattle.exchange.specs.Promise.{Begins, Night, morning}
-use Rattle.exchange.specs.Example.{controller, loader, output, night, Given, Played, anew, Anew}
+use Rattle.exchange.specs.Promise.{Begins, morning}
+use Rattle.exchange.specs.Example.{controller, loader, output, night, Played, Anew}
 use Rattle.exchange.proofs.Checked.{below-so, always?, always-so}
 
 begun : Begins controller loader

@@ -5,6 +5,7 @@ pub mod Begins
 pub mod Started
 pub mod Facts
 pub mod Controller
+pub mod Going
 pub mod Sender
 pub mod Codec
 pub mod AnswerBytes

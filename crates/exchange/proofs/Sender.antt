@@ -2,7 +2,7 @@
 use Prim.Native.Nat.{ℕ, _+_, _%_, _<_}
 use mathlib.Core.Path.{_≡_, refl, sym, ap, subst, _∙_}
 use mathlib.Core.Bool.{Bool, true, false, cond, false≢true}
-use mathlib.Core.Option.{Option, none, some, Option·some-injective}
+use mathlib.Core.Option.{none, some, Option·some-injective}
 use mathlib.Core.List.{List, [], _∷_}
 use native.Mathlib.Omega.{arith}
 use borrow.Author.Tests.{eqb-true, lt-ltb, eq-eqb}
@@ -154,15 +154,14 @@ module _ {s : Loader} {d : List ℕ} (w : Waits ends terms sight s d) where
 
   pub refuses-other : {e : List ℕ} {o : Outcome} {a : List ℕ} → Plain e → Answers e o a → (tagOf (getD e 0 0) ≡ tagOf (getD d 0 0) → ⊥) → Turned ends terms sight s (ends .take s a)
   refuses-other {e} {o} {a} p h n =
-      let i : tagOf (asked-request p) ≡ tagOf (getD e 0 0) = ap tagOf (sym (first-is p)) in
-      refuses a (other-tag (w .plain) (p .request) (judged-headed (p .request) a (h .items) (rw (asked-is p) at (encodes-judged (asked-fits p) (h .encodes)))) (λ z. n (sym i ∙ z ∙ ap tagOf (sym (first-is (w .plain))))))
-    where
-      asked-request : {e : List ℕ} → Plain e → ℕ
-      asked-request p = p .request .byte0
+      let j = rw (asked-is p) at (encodes-judged (asked-fits p) (h .encodes)) in
+      let m : tagOf (p .request .byte0) ≡ tagOf (w .plain .request .byte0) → ⊥ = λ z. n (ap tagOf (first-is p) ∙ z ∙ ap tagOf (sym (first-is (w .plain)))) in
+      refuses a (other-tag (w .plain) (p .request) (judged-headed (p .request) a (h .items) j) m)
 
   pub refuses-strange : {a : List ℕ} → Strange a → Turned ends terms sight s (ends .take s a)
   refuses-strange {a} h =
-      refuses a (other-kind (w .plain) (h .request) (judged-headed (h .request) a (h .items) (encodes-judged (h .fits) (h .encodes))) (λ z. false≢true (sym (w .plain .clear) ∙ sym z ∙ h .finds)))
+      let j = encodes-judged (h .fits) (h .encodes) in
+      refuses a (other-kind (w .plain) (h .request) (judged-headed (h .request) a (h .items) j) (λ z. false≢true (sym (w .plain .clear) ∙ sym z ∙ h .finds)))
 
 -- nothing waits: nothing is sent, and no answer taken
 pub idle-sends : (s : Loader) → waitingBy s ≡ none → ends .send s 0 ≡ none
