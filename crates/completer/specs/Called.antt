@@ -1,5 +1,5 @@
--- What is promised of a call, each about one thing, for whoever stands above it. The proofs are in proofs/Calls.antt and
--- proofs/Discovered.antt. Assumes nothing.
+-- What is promised of a call, each about one thing, for whoever stands above it. The proofs are in proofs/Laws/Calls.antt and
+-- proofs/Laws/Discovered.antt. Assumes nothing.
 use Prim.Native.Nat.{ℕ}
 use mathlib.Core.Path.{_≡_}
 use mathlib.Core.Bool.{true}

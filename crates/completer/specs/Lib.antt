@@ -1,4 +1,4 @@
--- What the contracts of the crate `completer` cite, and what is promised of carrying out.
+-- What the contracts of the crate `completer` cite, and what is promised of carrying out and of a call.
 pub mod Moves
 pub mod Answers
 pub mod Carrying

@@ -1,16 +1,16 @@
 -- What is promised of carrying out, in other words than its definitions: so a wrong definition cannot hide. The proofs are in
--- proofs/Bytes.antt and proofs/Carried.antt. Assumes nothing.
+-- proofs/Laws/LastWrite.antt and proofs/Laws/Promised.antt. Assumes nothing.
 use Prim.Native.Nat.{ℕ, suc, _+_, _-_, _/_, _<_, _≤_}
 use mathlib.Core.Path.{_≡_}
 use mathlib.Core.Bool.{Bool, true, false, cond, _&&_, _||_}
-use mathlib.Core.List.{List, [], _∷_, _++_}
+use mathlib.Core.List.{List, [], _∷_, _++_, map}
 use lib.ListN.{length, getD, take}
 use lib.Dec.{ltb, leb, eqb}
 use Rattle.word.specs.Words.{Words}
 use Rattle.word.specs.Enables.{byteOf, bitOf}
 use Rattle.message.specs.declared.header.Kind.{Kind}
 use Rattle.message.specs.declared.header.Kind.the-variants.{Nop, Write, Read}
-use Rattle.message.specs.declared.answer.Status.the-variants.{Ok, Timeout, Error}
+use Rattle.message.specs.declared.answer.Status.the-variants.{Ok, Timeout}
 use Rattle.message.specs.Limits.{limit}
 use Rattle.message.specs.Header.{kindOf, firstOf, finalOf}
 use Rattle.message.specs.Request.{Command, Request}
@@ -85,6 +85,13 @@ AnswersThen r mark memory =
     (before : List Command) (c : Command) (after : List Command) → r .commands ≡ before ++ (c ∷ after)
     → carried (kindOf (r .byte0)) (length memory) before ≡ before
     → AnsweredThen r mark memory before c (getD (answerTo r mark memory) (length before) failed)
+
+-- "Byte 1 of reads and NOPs is not looked at": with 0 in its place the answer is the same, and `Quiet` says that memory stays
+abbrev pub blank : Command → Command
+blank c = record { byte1 = 0; count = c .count; address = c .address; payload = c .payload }
+
+abbrev pub NotLookedAt : Request → ℕ → List ℕ → Type 0
+NotLookedAt r mark memory = (kindOf (r .byte0) ≡ Write → ⊥) → answerTo (asking r (map blank (r .commands))) mark memory ≡ answerTo r mark memory
 
 -- the answer list fits the request, so it is no longer than a message may be
 pub record AnswerFits (r : Request) (mark : ℕ) (memory : List ℕ) : Type 0 where

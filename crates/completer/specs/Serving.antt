@@ -1,8 +1,8 @@
 -- The call: whether a message is turned away, and what is there after it. Assumes nothing.
-use Prim.Native.Nat.{ℕ, _+_, _*_, _%_}
+use Prim.Native.Nat.{ℕ, _*_}
 use mathlib.Core.Path.{_≡_}
 use mathlib.Core.Bool.{Bool, true, false, cond}
-use mathlib.Core.List.{List, [], _∷_}
+use mathlib.Core.List.{List}
 use lib.ListN.{length, take}
 use Rattle.word.specs.Words.{put, putWords}
 use Rattle.message.specs.declared.refusal.Refusal.{Refusal}

@@ -1,6 +1,6 @@
 -- The tag record and the rule of tags. Assumes nothing.
 use Prim.Native.Nat.{ℕ, _+_, _%_}
-use mathlib.Core.Bool.{Bool, true, false, cond, _&&_}
+use mathlib.Core.Bool.{Bool, true, false, cond}
 use lib.Dec.{ltb, leb, eqb}
 use Rattle.message.specs.Limits.{limit, limitBytes}
 use Rattle.completer.specs.declared.tags.TagRecord.{TagRecord}

@@ -12,14 +12,6 @@ use message::answer;
 use message::answer::Status;
 use message::header;
 
-// The header of one command's answer.
-pub(crate) fn head(byte: u32, status: Status, count: usize, last: bool) -> u32
-    requires { ⌜ (byte < 256) × (count < 4096) ⌝ }
-    ensures { λ r. ⌜ r ≡ headerFrom byte (codeOf status) count last ⌝ }
-{
-    header::header_from(byte, answer::code(status), count, last)
-}
-
 // One word of the stored answer, where it is kept.
 fn keep_word(stored: &mut [u32], keep: bool, n: usize, w: u32)
     requires { ⌜ n < length (now stored) ⌝ }
@@ -49,6 +41,31 @@ pub(crate) fn put_both(stored: &mut [u32], output: &mut [u8], keep: bool, n: usi
 {
     word::put_word(output, n, w);
     keep_word(stored, keep, n, w);
+}
+
+// The header of one command's answer.
+fn head(byte: u32, status: Status, count: usize, last: bool) -> u32
+    requires { ⌜ (byte < 256) × (count < 4096) ⌝ }
+    ensures { λ r. ⌜ r ≡ headerFrom byte (codeOf status) count last ⌝ }
+{
+    header::header_from(byte, answer::code(status), count, last)
+}
+
+// The same, put at word n of the answer.
+pub(crate) fn put_head(
+    stored: &mut [u32],
+    output: &mut [u8],
+    keep: bool,
+    n: usize,
+    byte: u32,
+    status: Status,
+    count: usize,
+    last: bool,
+)
+    requires { ⌜ (byte < 256) × (count < 4096) × (n < length (now stored)) × (4 * n + 4 ≤ length (now output)) ⌝ }
+    ensures { λ _. ⌜ Puts keep n (headerFrom byte (codeOf status) count last ∷ []) (now (stored .entry)) (now (output .entry)) (now (stored .exit)) (now (output .exit)) ⌝ }
+{
+    put_both(stored, output, keep, n, head(byte, status, count, last));
 }
 
 // A run of words of the answer.

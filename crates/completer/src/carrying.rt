@@ -1,11 +1,9 @@
 // Carrying out a message: each command by its kind, and the loop over the commands.
 ghost use mathlib.Core.Path.{_≡_};
 ghost use Prim.Native.Nat.{_<_, _≤_};
-ghost use lib.ListN.{length};
 ghost use Rattle.word.specs.Words.{wordsOf};
 ghost use Rattle.message.specs.declared.header.Kind.the-variants.{Nop, Write, Read};
 ghost use Rattle.message.specs.Request.{Means, read};
-ghost use Rattle.message.specs.Answer.{answerByte};
 ghost use Rattle.message.specs.Limits.{limit};
 ghost use Rattle.completer.specs.Carrying.{asked, Room, Here, CarriesAt, CarriesNop, FailsThere, Carries};
 use crate::answers;
@@ -38,12 +36,15 @@ fn fail(stored: &mut [u32], output: &mut [u8], task: Task, n: usize) -> Carried
     requires { ⌜ (task .answer < 256) × (n < limit) × Room (now stored) (now output) ⌝ }
     ensures { λ r. ⌜ FailsThere task n (now (stored .entry)) (now (output .entry)) r (now (stored .exit)) (now (output .exit)) ⌝ }
 {
-    answers::put_both(
+    answers::put_head(
         stored,
         output,
         task.keep,
         n,
-        answers::head(task.answer, Status::Error, 0, true),
+        task.answer,
+        Status::Error,
+        0,
+        true,
     );
     let words = n + 1;
     Carried {
@@ -68,12 +69,15 @@ fn carry_nop(
     let h = word::word_at(datagram, at);
     let count = header::count(h);
     let last = header::last(h);
-    answers::put_both(
+    answers::put_head(
         stored,
         output,
         task.keep,
         n,
-        answers::head(task.answer, Status::Ok, count, last),
+        task.answer,
+        Status::Ok,
+        count,
+        last,
     );
     answers::put_advert(stored, output, task.keep, n + 1, task.mark, count);
     let words = n + 1 + count;
@@ -109,21 +113,20 @@ fn carry_write(
     let from = at + 1 + header::address_words(task.byte0);
     let byte1 = header::byte1(h);
     let last = header::last(h);
-    answers::put_both(
+    answers::put_head(
         stored,
         output,
         task.keep,
         n,
-        answers::head(task.answer, Status::Ok, 0, last),
+        task.answer,
+        Status::Ok,
+        0,
+        last,
     );
     let words = n + 1;
     if count == 1 {
-        moves::store(
-            memory,
-            base,
-            word::word_at(datagram, from),
-            header::first(byte1),
-        );
+        let w = word::word_at(datagram, from);
+        moves::store(memory, base, w, header::first(byte1));
         // Here the next header's place does not wait for the count.
         let next = from + 1;
         return Carried {
@@ -164,12 +167,15 @@ fn carry_read(
     let base = (address / 4) as usize;
     let next = at + 1 + header::address_words(task.byte0);
     let last = header::last(h);
-    answers::put_both(
+    answers::put_head(
         stored,
         output,
         task.keep,
         n,
-        answers::head(task.answer, Status::Ok, count, last),
+        task.answer,
+        Status::Ok,
+        count,
+        last,
     );
     if count == 1 {
         answers::put_both(stored, output, task.keep, n + 1, memory[base]);

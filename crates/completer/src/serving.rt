@@ -2,10 +2,8 @@
 ghost use mathlib.Core.Path.{_≡_};
 ghost use mathlib.Core.Bool.{true, false, cond};
 ghost use Prim.Native.Nat.{_*_, _≤_, _<_};
-ghost use lib.ListN.{length, getD, take};
-ghost use Rattle.word.specs.Words.{putWords};
-ghost use Rattle.message.specs.Limits.{limit, limitBytes};
-ghost use Rattle.message.specs.Header.{tagOf};
+ghost use lib.ListN.{length};
+ghost use Rattle.message.specs.Limits.{limit};
 ghost use Rattle.message.specs.Request.{Means, read};
 ghost use Rattle.completer.specs.Carrying.{asked, Room};
 ghost use Rattle.completer.specs.Tags.{recordOk};

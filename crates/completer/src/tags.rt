@@ -1,7 +1,6 @@
 // The tag record: no tag, or a tag and the length of the stored answer.
 ghost use mathlib.Core.Path.{_≡_};
 ghost use mathlib.Core.Bool.{true};
-ghost use Prim.Native.Nat.{_<_};
 ghost use Rattle.completer.specs.Tags.{freshRecord, repeats, expected, markOf, lentOk, heldOk, recordOk, keptOk};
 
 // What the controller keeps of the last message beside its answer. A fresh record's other fields are never looked at.

@@ -5,7 +5,7 @@ use native.Mathlib.Omega.{arith}
 use Rattle.message.specs.declared.header.Kind.the-variants.{Response}
 use Rattle.message.specs.Header.{tagOf, wideOf, discoveryOf}
 use Rattle.message.specs.Answer.{answerByte}
-use Rattle.message.proofs.Headers.{tag-back, discovery-back}
+use Rattle.message.proofs.Laws.Headers.{tag-back, discovery-back}
 
 pub answer-tag : (byte0 : ℕ) → tagOf (answerByte byte0) ≡ tagOf byte0
 unfolding answerByte

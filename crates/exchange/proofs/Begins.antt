@@ -13,8 +13,8 @@ use Rattle.word.proofs.Runs.{words-front}
 use Rattle.message.specs.Limits.{limitBytes}
 use Rattle.completer.specs.declared.tags.TagRecord.{TagRecord}
 use Rattle.completer.specs.Tags.{markOf}
-use Rattle.completer.proofs.Verdicts.{holds}
-use Rattle.completer.proofs.Discovered.{discovery-answered}
+use Rattle.completer.proofs.Laws.Verdicts.{holds}
+use Rattle.completer.proofs.Laws.Discovered.{discovery-answered}
 use Rattle.initiator.specs.declared.sender.Sender.{Sender}
 use Rattle.initiator.specs.declared.sender.Moved.{Moved}
 use Rattle.initiator.specs.Discovery.{discoveryBytes}

@@ -11,11 +11,11 @@ use Rattle.message.specs.Header.{tagOf, kindOf, discoveryOf}
 use Rattle.message.specs.Walk.{refusal}
 use Rattle.message.specs.Request.{Request, Wrong, Means, read, lengthOk, Fits}
 use Rattle.message.specs.Answer.{Answered, answerByte, judge}
-use Rattle.message.proofs.Faults.{no-mean}
-use Rattle.message.proofs.Back.{written-read}
-use Rattle.message.proofs.Going.{read-first}
-use Rattle.message.proofs.Judged.{judge-encoded, other-byte}
-use Rattle.message.proofs.Looking.{judge-long}
+use Rattle.message.proofs.Laws.Faults.{no-mean}
+use Rattle.message.proofs.Laws.Back.{written-read}
+use Rattle.message.proofs.Laws.Going.{read-first}
+use Rattle.message.proofs.Laws.Judged.{judge-encoded, other-byte}
+use Rattle.message.proofs.Laws.Looking.{judge-long}
 use Rattle.completer.specs.Carrying.{asked}
 use Rattle.initiator.specs.Outcome.{answerTo, endingAt, dataAt}
 use Rattle.exchange.specs.Outcomes.{Outcome, each, toldAt, told, resultsIn}

@@ -16,16 +16,16 @@ use Rattle.message.specs.Limits.{limit}
 use Rattle.message.specs.Header.{tagOf, kindOf, discoveryOf}
 use Rattle.message.specs.Walk.{refusal}
 use Rattle.message.specs.Request.{Request, Reading, Wrong, Means, read, Fits}
-use Rattle.message.proofs.Back.{written-read}
-use Rattle.message.proofs.Exactly.{refusal-range}
+use Rattle.message.proofs.Laws.Back.{written-read}
+use Rattle.message.proofs.Laws.Exactly.{refusal-range}
 use Rattle.completer.specs.declared.serving.Verdict.the-variants.{Refused, New, Repeat, Discovery}
 use Rattle.completer.specs.Moves.{memoryAfter}
 use Rattle.completer.specs.Answers.{answerTo}
 use Rattle.completer.specs.Carrying.{asked}
 use Rattle.completer.specs.Tags.{markOf, heldOk, recordOk}
 use Rattle.completer.specs.Serving.{After, ruleOf, judged, afterBy}
-use Rattle.completer.proofs.Promised.{same-length, stays-words, quiet}
-use Rattle.completer.proofs.Calls.{repeat-sends}
+use Rattle.completer.proofs.Laws.Promised.{same-length, stays-words, quiet}
+use Rattle.completer.proofs.Laws.Calls.{repeat-sends}
 use Rattle.once.specs.Tags.{new, again, late, verdict, tagIn, answerIn, Carried, Kept}
 use Rattle.exchange.specs.Outcomes.{outcomeOver}
 use Rattle.exchange.specs.Ends.{Controller, ends, controllerIn, sentIn, serving}

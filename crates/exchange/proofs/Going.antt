@@ -18,8 +18,8 @@ use Rattle.message.specs.Header.{tagOf, discoveryOf}
 use Rattle.message.specs.Walk.{refusal}
 use Rattle.message.specs.Request.{Command, Request, Means, read, Fits}
 use Rattle.message.specs.Answer.{Answered}
-use Rattle.message.proofs.Answering.{encoded-is}
-use Rattle.message.proofs.Back.{right}
+use Rattle.message.proofs.Laws.Answering.{encoded-is}
+use Rattle.message.proofs.Laws.Back.{right}
 use Rattle.completer.specs.declared.tags.TagRecord.{TagRecord}
 use Rattle.completer.specs.declared.serving.Verdict.{Verdict}
 use Rattle.completer.specs.declared.serving.Verdict.the-variants.{Refused, New, Repeat, Discovery}
@@ -28,8 +28,8 @@ use Rattle.completer.specs.Answers.{okWords, done, failed, answerOf, answers, a
 use Rattle.completer.specs.Carrying.{asked}
 use Rattle.completer.specs.Tags.{repeats, expected, markOf, lentOk, keptOk}
 use Rattle.completer.specs.Serving.{ruleOf, judged, verdictOf, answerBy, afterBy, after}
-use Rattle.completer.proofs.Promised.{answer-fits}
-use Rattle.completer.proofs.Verdicts.{holds}
+use Rattle.completer.proofs.Laws.Promised.{answer-fits}
+use Rattle.completer.proofs.Laws.Verdicts.{holds}
 use Rattle.initiator.specs.Outcome.{dataOf}
 use Rattle.once.specs.Tags as Tags
 use Rattle.once.specs.Tags.{new, again, late, verdict, tagIn}

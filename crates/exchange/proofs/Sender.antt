@@ -13,12 +13,12 @@ use Rattle.message.specs.Header.{tagOf, discoveryOf}
 use Rattle.message.specs.Walk.{refusal}
 use Rattle.message.specs.Request.{Request, Reading, Wrong, Means, read}
 use Rattle.message.specs.Answer.{Answered}
-use Rattle.message.proofs.Going.{read-first}
+use Rattle.message.proofs.Laws.Going.{read-first}
 use Rattle.initiator.specs.declared.sender.Sender.{Sender}
 use Rattle.initiator.specs.declared.sender.Moved.{Moved}
 use Rattle.initiator.specs.Outcome.{answerTo}
 use Rattle.initiator.specs.Sender.{asksAs, offerFault, sendFault, offerOf, sendOf, takeOf}
-use Rattle.initiator.proofs.Sending.{asks-wrong, asks-discovery, asks-tag}
+use Rattle.initiator.proofs.Laws.Sending.{asks-wrong, asks-discovery, asks-tag}
 use Rattle.once.specs.Tags.{Waits, Still, Turned, Ended}
 use Rattle.exchange.specs.Outcomes.{Outcome, told}
 use Rattle.exchange.specs.Ends.{Loader, ends, offeredIn, handed, takenIn}

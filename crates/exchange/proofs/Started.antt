@@ -11,12 +11,12 @@ use Rattle.message.specs.declared.answer.Status.the-variants.{Ok}
 use Rattle.message.specs.declared.answer.Look.the-variants.{Item}
 use Rattle.message.specs.Limits.{limitBytes}
 use Rattle.message.specs.Header.{kindNo, byte0From}
-use Rattle.message.proofs.Round.{length-right}
+use Rattle.message.proofs.Laws.Round.{length-right}
 use Rattle.message.specs.Answer.{statusNo, answerByte, answerFault, seenOf, lookOn, lookAt}
 use Rattle.completer.specs.Called.{fixedDiscovery}
 use Rattle.initiator.specs.Discovery.{discoveryBytes}
 use Rattle.initiator.specs.Sender.{discoveryByte, startedAt, startOf}
-use Rattle.initiator.proofs.Starting.{start-as}
+use Rattle.initiator.proofs.Laws.Starting.{start-as}
 
 -- the two ends mean the same discovery
 pub same-discovery : discoveryBytes ≡ fixedDiscovery

@@ -1,7 +1,7 @@
 -- The building record, and the formula of the records that some sequence of calls gives (specs/Reach.antt says it in those words).
 -- Assumes nothing.
 use Prim.Native.Nat.{ℕ, _+_, _-_, _*_, _/_, _%_}
-use mathlib.Core.Bool.{Bool, true, false, not, cond, _&&_}
+use mathlib.Core.Bool.{Bool, false, not, cond, _&&_}
 use lib.Dec.{ltb, leb, eqb}
 use Rattle.message.specs.declared.header.Kind.{Kind}
 use Rattle.message.specs.declared.header.Kind.the-variants.{Nop, Write, Read, Response}

@@ -7,3 +7,4 @@ pub mod Sequence
 pub mod Discovery
 pub mod Outcome
 pub mod Sender
+pub mod Promises

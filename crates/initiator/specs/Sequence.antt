@@ -5,7 +5,7 @@ use mathlib.Core.Bool.{Bool, cond}
 use mathlib.Core.List.{List, [], _∷_, _++_}
 use lib.ListN.{length, take, drop}
 use Rattle.message.specs.Walk.{refusal}
-use Rattle.message.specs.Request.{Command, Request, Reading, Wrong, Means, read, written, replies, none}
+use Rattle.message.specs.Request.{Command, Request, Wrong, Means, read, written, replies, none}
 use Rattle.initiator.specs.declared.building.Building.{Building}
 use Rattle.initiator.specs.declared.asked.Asked.{Asked}
 use Rattle.initiator.specs.Building.{byteOf}

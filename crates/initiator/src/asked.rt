@@ -20,7 +20,7 @@ pub struct Asked {
 }
 
 // The count of a command: a read's as asked, else the number of data words lent.
-pub fn count_by(kind: Kind, asked: usize, lent: usize) -> usize
+pub(crate) fn count_by(kind: Kind, asked: usize, lent: usize) -> usize
     ensures { λ r. ⌜ r ≡ countBy kind asked lent ⌝ }
 {
     match kind {
@@ -45,7 +45,7 @@ fn byte1_by(kind: Kind, count: usize, first: u32, last: u32) -> u32
 }
 
 // The address that is sent: a NOP has none.
-pub fn address_sent(kind: Kind, address: u64) -> u64
+pub(crate) fn address_sent(kind: Kind, address: u64) -> u64
     ensures { λ r. ⌜ (r ≡ addressSent kind address) × (r < 18446744073709551616) ⌝ }
 {
     match kind {
@@ -114,7 +114,7 @@ fn address_fits(kind: Kind, wide: bool, address: u64) -> bool
 }
 
 // The words of a command in a message of this byte 0.
-pub fn size_by(byte0: u32, count: usize) -> usize
+pub(crate) fn size_by(byte0: u32, count: usize) -> usize
     requires { ⌜ count < 4096 ⌝ }
     ensures { λ r. ⌜ (r ≡ sizeBy byte0 count) × (r < 4099) ⌝ }
 {
@@ -122,7 +122,7 @@ pub fn size_by(byte0: u32, count: usize) -> usize
 }
 
 // The words of its OK answer.
-pub fn reply_by(byte0: u32, count: usize) -> usize
+pub(crate) fn reply_by(byte0: u32, count: usize) -> usize
     requires { ⌜ count < 4096 ⌝ }
     ensures { λ r. ⌜ (r ≡ replyBy byte0 count) × (r < 4099) ⌝ }
 {
@@ -141,7 +141,13 @@ fn room_fits(byte0: u32, words: usize, answer: usize, count: usize) -> bool
 }
 
 // What is wrong with a command of this count, 23 to 26, or 0.
-pub fn command_fault(byte0: u32, words: usize, answer: usize, asked: Asked, count: usize) -> u32
+pub(crate) fn command_fault(
+    byte0: u32,
+    words: usize,
+    answer: usize,
+    asked: Asked,
+    count: usize,
+) -> u32
     requires { ⌜ (words ≤ limit) × (answer ≤ limit) ⌝ }
     ensures { λ r. ⌜ r ≡ commandFault byte0 words answer asked count ⌝ }
 {
@@ -163,7 +169,7 @@ pub fn command_fault(byte0: u32, words: usize, answer: usize, asked: Asked, coun
 }
 
 // The header of a command that others may follow.
-pub fn header_by(byte0: u32, asked: Asked, count: usize) -> u32
+pub(crate) fn header_by(byte0: u32, asked: Asked, count: usize) -> u32
     requires { ⌜ (byte0 < 256) × (count < 4096) × (enablesFit (kindOf byte0) count (asked .first) (asked .last) ≡ true) ⌝ }
     ensures { λ r. ⌜ r ≡ headerFrom byte0 (byte1By (kindOf byte0) (asked .first) (asked .last)) count false ⌝ }
 {

@@ -12,7 +12,7 @@ ghost use Rattle.message.specs.Limits.{limit};
 ghost use Rattle.message.specs.Header.{kindOf};
 ghost use Rattle.message.specs.Request.{addressIn, addressTop, commandWords};
 ghost use Rattle.initiator.specs.Building.{byteOf};
-ghost use Rattle.initiator.specs.Asked.{countBy, commandBy, sizeBy, replyBy};
+ghost use Rattle.initiator.specs.Asked.{countBy, commandBy};
 ghost use Rattle.initiator.specs.Build.{gives, opened, begun, usable, addFault, closeFault, grown, shut, lastSet, added, addedTo, closed, closedTo};
 use crate::asked;
 use crate::asked::Asked;
@@ -162,7 +162,14 @@ fn place(out: &mut [u8], b: Building, asked: Asked, payload: &[u32]) -> Building
     let h = asked::header_by(byte0, asked, count);
     let n = header::address_words(byte0);
     let sent = header::data_words(kind, payload.len());
-    put_command(out, b.words, h, n, asked::address_sent(kind, asked.address), &payload[..sent]);
+    put_command(
+        out,
+        b.words,
+        h,
+        n,
+        asked::address_sent(kind, asked.address),
+        &payload[..sent],
+    );
     grow(b, byte0, count)
 }
 

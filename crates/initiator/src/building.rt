@@ -2,7 +2,6 @@
 ghost use mathlib.Core.Path.{_≡_};
 ghost use Prim.Native.Nat.{_<_, _≤_};
 ghost use Rattle.message.specs.Limits.{limit};
-ghost use Rattle.message.specs.Header.{kindOf, addressWords};
 ghost use Rattle.initiator.specs.Building.{startOk, byteOf, freshOk, nopsOk, writesOk, readsOk, shapeOk, someOk, reachable};
 use message::header;
 use message::header::Kind;
@@ -22,7 +21,7 @@ pub struct Building {
 }
 
 // Whether a message can have this kind and this tag.
-pub fn start_ok(kind: u32, tag: u32) -> bool
+pub(crate) fn start_ok(kind: u32, tag: u32) -> bool
     ensures { λ r. ⌜ r ≡ startOk kind tag ⌝ }
 {
     match kind {
@@ -32,7 +31,7 @@ pub fn start_ok(kind: u32, tag: u32) -> bool
 }
 
 // Byte 0 of every header of the message.
-pub fn byte0_of(b: Building) -> u32
+pub(crate) fn byte0_of(b: Building) -> u32
     requires { ⌜ b .tag < 16 ⌝ }
     ensures { λ r. ⌜ (r ≡ byteOf b) × (r < 256) ⌝ }
 {
@@ -121,11 +120,17 @@ fn some_ok(b: Building) -> bool
         return false;
     }
     let byte0 = byte0_of(b);
-    shape_ok(header::kind_of(byte0), header::address_words(byte0), b.words, b.last, b.answer)
+    shape_ok(
+        header::kind_of(byte0),
+        header::address_words(byte0),
+        b.words,
+        b.last,
+        b.answer,
+    )
 }
 
 // Whether some sequence of calls gives this record.
-pub fn reached(b: Building) -> bool
+pub(crate) fn reached(b: Building) -> bool
     ensures { λ r. ⌜ r ≡ reachable b ⌝ }
 {
     if !start_ok(b.kind, b.tag) {

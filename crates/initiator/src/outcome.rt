@@ -8,6 +8,7 @@ ghost use Rattle.message.specs.Limits.{limit, limitBytes};
 ghost use Rattle.message.specs.Header.{kindOf, countOf, bodyWords};
 ghost use Rattle.message.specs.Request.{read};
 ghost use Rattle.initiator.specs.Outcome.{refusedWith, badOf, spanOf, partOf, withItem, lookBeside, Ready, toldOf, answersTo, answerTo, countIn, endingIn, partIn, outcomeOf, ReadData};
+use crate::refusals;
 use message::answer;
 use message::answer::Look;
 use message::answer::Seen;
@@ -16,9 +17,6 @@ use message::header;
 use message::header::Kind;
 use message::refusal::Refusal;
 use message::walk::Walked;
-
-// The request would be refused 2 to 10, has the discovery bit, or (for a sender) its tag is not the next tag.
-pub const REQUEST: u32 = 31;
 
 // How a command ended: it was not answered, or with a status.
 pub enum Ending {
@@ -173,11 +171,15 @@ pub fn told(request: &[u8], answer: &[u8], k: usize) -> Outcome
 {
     let walked = message::walk::walk(request);
     let Walked::WellFormed(_) = walked else {
-        return refused(Refusal { number: REQUEST });
+        return refused(Refusal {
+            number: refusals::REQUEST,
+        });
     };
     let byte0 = wide(request[0]);
     if header::discovery(byte0) {
-        return refused(Refusal { number: REQUEST });
+        return refused(Refusal {
+            number: refusals::REQUEST,
+        });
     }
     if !message::walk::length_ok(answer.len()) {
         return refused(Refusal {

@@ -12,3 +12,13 @@ pub const ENABLES: u32 = 24;
 pub const ADDRESS: u32 = 25;
 // The request or its all-OK answer would pass the limit.
 pub const TOO_LONG: u32 = 26;
+// Sending or taking an answer while none waits.
+pub const NONE_WAITS: u32 = 30;
+// The request would be refused 2 to 10, has the discovery bit, or (for a sender) its tag is not the next tag.
+pub const REQUEST: u32 = 31;
+// Offering while one waits.
+pub const ONE_WAITS: u32 = 36;
+// The sender record's next tag is over 15.
+pub const RECORD: u32 = 37;
+// The discovery's status is not OK, or its word 1 is no stored tag.
+pub const DISCOVERY: u32 = 38;

@@ -6,7 +6,7 @@ ghost use Rattle.message.specs.Walk.{refusal};
 ghost use Rattle.message.specs.Request.{read};
 ghost use Rattle.initiator.specs.Sender.{freshSender, asksAs, offerFault, sendFault, offerOf, sendOf, takeOf, spoiled, wordOk, nextAfter, startedAt, startOf};
 use crate::outcome;
-use crate::outcome::REQUEST;
+use crate::refusals;
 use message::answer;
 use message::answer::Look;
 use message::answer::Status;
@@ -28,15 +28,6 @@ pub struct Moved {
     pub refusal: Refusal,
     pub sender: Sender,
 }
-
-// Sending or taking an answer while none waits.
-pub const NONE_WAITS: u32 = 30;
-// Offering while one waits.
-pub const ONE_WAITS: u32 = 36;
-// The sender record's next tag is over 15.
-pub const RECORD: u32 = 37;
-// The discovery's status is not OK, or its word 1 is no stored tag.
-pub const DISCOVERY: u32 = 38;
 
 impl Sender {
     // The sender of a fresh pair.
@@ -71,8 +62,12 @@ impl Sender {
         let status = seen.status;
         match status {
             Status::Ok => started(word::word_at(answer, 2)),
-            Status::Timeout => spoilt(Refusal { number: DISCOVERY }),
-            Status::Error => spoilt(Refusal { number: DISCOVERY }),
+            Status::Timeout => spoilt(Refusal {
+                number: refusals::DISCOVERY,
+            }),
+            Status::Error => spoilt(Refusal {
+                number: refusals::DISCOVERY,
+            }),
         }
     }
 }
@@ -116,7 +111,9 @@ fn started(w: u32) -> Moved
     ensures { λ r. ⌜ r ≡ startedAt w ⌝ }
 {
     if !word_ok(w) {
-        return spoilt(Refusal { number: DISCOVERY });
+        return spoilt(Refusal {
+            number: refusals::DISCOVERY,
+        });
     }
     Moved {
         refusal: Refusal { number: 0 },
@@ -154,13 +151,13 @@ fn offer_fault(sender: Sender, message: &[u8]) -> u32
     ensures { λ r. ⌜ r ≡ offerFault sender (now (message .entry)) ⌝ }
 {
     if 16 <= sender.next {
-        return RECORD;
+        return refusals::RECORD;
     }
     if sender.waits {
-        return ONE_WAITS;
+        return refusals::ONE_WAITS;
     }
     if !asks_as(sender.next, message) {
-        return REQUEST;
+        return refusals::REQUEST;
     }
     0
 }
@@ -170,13 +167,13 @@ fn send_fault(sender: Sender, message: &[u8]) -> u32
     ensures { λ r. ⌜ r ≡ sendFault sender (now (message .entry)) ⌝ }
 {
     if 16 <= sender.next {
-        return RECORD;
+        return refusals::RECORD;
     }
     if !sender.waits {
-        return NONE_WAITS;
+        return refusals::NONE_WAITS;
     }
     if !asks_as(sender.next, message) {
-        return REQUEST;
+        return refusals::REQUEST;
     }
     0
 }

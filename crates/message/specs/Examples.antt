@@ -1,4 +1,4 @@
--- Worked and hostile examples, from bytes, with the number that each must get. `proofs/Worked.antt` computes them. Assumes nothing.
+-- Worked and hostile examples, from bytes, with the number that each must get. `proofs/Laws/Worked.antt` computes them. Assumes nothing.
 use Prim.Native.Nat.{ℕ}
 use mathlib.Core.Bool.{Bool, true, false, _&&_}
 use mathlib.Core.List.{List, [], _∷_}

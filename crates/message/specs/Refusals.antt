@@ -1,4 +1,4 @@
--- The refusals in their own words, apart from the walk: what `proofs/Exactly.antt` shows of `read` and `proofs/Judged.antt` of
+-- The refusals in their own words, apart from the walk: what `proofs/Laws/Exactly.antt` shows of `read` and `proofs/Laws/Judged.antt` of
 -- `judge`. Assumes nothing.
 use Prim.Native.Nat.{ℕ, suc, _<_, _≤_}
 use mathlib.Core.Path.{_≡_}

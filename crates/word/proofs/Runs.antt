@@ -129,7 +129,7 @@ module _ (l : List ℕ) (at w : ℕ) (ws : List ℕ) (low : w < 2147483648) (fit
       let t = high-bytes w low in
       let v : ℕ = y % 128 + 128 in
       let stored : put (p ++ y ∷ rest) (4 * at + 3) (v ∷ []) ≡ p ++ v ∷ rest =
-          sym (put-one (p ++ y ∷ rest) (4 * at + 3) v (rw (length-append p (y ∷ rest)) (omega arith))) ∙ set-at p y rest v (4 * at + 3) lp in
+      sym (put-one (p ++ y ∷ rest) (4 * at + 3) v (rw (length-append p (y ∷ rest)) (omega arith))) ∙ set-at p y rest v (4 * at + 3) lp in
       rw (split, getD-at p y rest 0 (4 * at + 3) lp, stored, t .0, t .1, t .2, t .3) (append-assoc (take (4 * at) l) three (v ∷ rest))
 
 pub words-next : (l : List ℕ) (at : ℕ) (s : List ℕ) (i : ℕ) → i < length s → 4 * (at + i) + 4 ≤ length l

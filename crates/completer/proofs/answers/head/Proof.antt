@@ -1,6 +1,4 @@
 -- `completer::answers::head` meets its contract: the header of that status. Assumes nothing.
-use mathlib.Core.Path.{_∙_, ap}
-use Rattle.message.specs.Header.{headerFrom}
 use borrow.Author.Needs.{needs}
 use Rattle.completer.proofs.answers.head.Statement.{statement}
 use Rattle.completer.proofs.answers.head.Tie as tie

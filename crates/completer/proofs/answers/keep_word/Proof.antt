@@ -1,6 +1,6 @@
 -- `completer::answers::keep_word` meets its contract: one word put, or none. Assumes nothing.
 use native.Mathlib.Omega.{arith}
-use Rattle.completer.proofs.Putting.{kept-off, kept-one}
+use Rattle.completer.proofs.Laws.Putting.{kept-off, kept-one}
 use borrow.Author.Needs.{needs}
 use Rattle.completer.proofs.answers.keep_word.Statement.{statement}
 use Rattle.completer.proofs.answers.keep_word.Tie as tie

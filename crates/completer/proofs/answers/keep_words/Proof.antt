@@ -1,6 +1,6 @@
 -- `completer::answers::keep_words` meets its contract: a run put, or none. Assumes nothing.
 use mathlib.Core.Path.{_∙_}
-use Rattle.completer.proofs.Putting.{kept-off, kept-on}
+use Rattle.completer.proofs.Laws.Putting.{kept-off, kept-on}
 use borrow.Author.Needs.{needs}
 use Rattle.completer.proofs.answers.keep_words.Statement.{statement}
 use Rattle.completer.proofs.answers.keep_words.Tie as tie

@@ -1,8 +1,7 @@
 -- `completer::answers::put_advert` meets its contract: no word, one, or one behind the other. Assumes nothing.
-use Prim.Native.Nat.{ℕ}
 use mathlib.Core.Path.{_≡_, refl}
 use native.Mathlib.Omega.{arith}
-use Rattle.completer.proofs.Putting.{puts-none, puts-more}
+use Rattle.completer.proofs.Laws.Putting.{puts-none, puts-more}
 use borrow.Author.Needs.{needs}
 use Rattle.completer.proofs.answers.put_advert.Statement.{statement}
 use Rattle.completer.proofs.answers.put_advert.Tie as tie

@@ -1,13 +1,13 @@
 -- `completer::carrying::carry` meets its contract. The loop's invariant: the message is under way, and no buffer changes its length. Assumes nothing.
 use borrow.Author.Needs.{needs}
 use Prim.Native.Nat.{_-_}
-use mathlib.Core.Path.{_≡_, refl, sym, _∙_}
+use mathlib.Core.Path.{_≡_, refl}
 use native.Mathlib.Omega.{arith}
 use lib.ListN.{length}
 use Rattle.word.specs.Words.{wordsOf}
 use Rattle.word.proofs.Runs.{below-all}
-use Rattle.completer.specs.Carrying.{Room, asked}
-use Rattle.completer.proofs.Underway.{Underway, starts, here-at, ends, short, goes, nearer}
+use Rattle.completer.specs.Carrying.{asked}
+use Rattle.completer.proofs.Laws.Underway.{Underway, starts, here-at, ends, short, goes, nearer}
 use Rattle.completer.proofs.carrying.carry.Statement.{statement}
 use Rattle.completer.proofs.carrying.carry.Tie as tie
 

@@ -1,13 +1,13 @@
 -- `completer::carrying::carry_nop` meets its contract: a header and the words of the advertisement. Assumes nothing.
-use Prim.Native.Nat.{ℕ, _+_, _<_, _^_}
-use mathlib.Core.Path.{_≡_, refl, sym, ap, _∙_}
+use Prim.Native.Nat.{ℕ}
+use mathlib.Core.Path.{_≡_, refl, ap, _∙_}
 use mathlib.Core.List.{List}
 use native.Mathlib.Omega.{arith}
-use lib.ListN.{length, getD}
+use lib.ListN.{getD}
 use Rattle.word.specs.Words.{wordsOf}
 use Rattle.message.specs.declared.header.Kind.the-variants.{Nop}
 use Rattle.message.specs.Header.{countOf, lastOf}
-use Rattle.completer.proofs.OneCommand.{Fitting, fitting, did-nop}
+use Rattle.completer.proofs.Laws.OneCommand.{Fitting, fitting, did-nop}
 use borrow.Author.Needs.{needs}
 use Rattle.completer.proofs.carrying.carry_nop.Statement.{statement}
 use Rattle.completer.proofs.carrying.carry_nop.Tie as tie
@@ -23,9 +23,6 @@ module _ (k : tie.After-count) where
   count-is : k .count .result ≡ countOf (getD (wordsOf dg) (s .args .at) 0)
   count-is = k .count .ensures .0 ∙ ap countOf (k .before .word-at .ensures)
 
-  long : length dg < 2 ^ 64
-  long = s .good .1 .1 .1 .0 .0
-
   known : Fitting Nop dg (s .args .task .byte0) (s .args .at) (s .args .n) (k .count .result)
   known = fitting dg (s .pre .0) (s .pre .2) count-is
 
@@ -38,17 +35,14 @@ count-requires c κs = search needs
 last-requires : tie.Need-last-requires
 last-requires c κs = search needs
 
-head-requires : tie.Need-head-requires
-head-requires c κs = search needs
-
-put-both-requires : tie.Need-put-both-requires
-put-both-requires c κs = search needs
+put-head-requires : tie.Need-put-head-requires
+put-head-requires c κs = search needs
 
 add-put-advert : tie.Need-add-put-advert
 add-put-advert c = search needs
 
 put-advert-requires : tie.Need-put-advert-requires
-put-advert-requires c κs = let g = known (c .before .before .before .before .before .before .before .before .before .before .before) in (omega arith, omega arith, omega arith)
+put-advert-requires c κs = let g = known (c .before .before .before .before .before .before .before .before .before .before) in (omega arith, omega arith, omega arith)
 
 add-words : tie.Need-add-words
 add-words c = search needs
@@ -57,10 +51,10 @@ add-words-2 : tie.Need-add-words-2
 add-words-2 c = search needs
 
 add-next : tie.Need-add-next
-add-next c = let g = known (c .before .before .before .before .before .before .before .before .before .before .before .before .before .before .before .before) in omega arith
+add-next c = let g = known (c .before .before .before .before .before .before .before .before .before .before .before .before .before .before .before) in omega arith
 
 add-next-2 : tie.Need-add-next-2
-add-next-2 c = let g = known (c .before .before .before .before .before .before .before .before .before .before .before .before .before .before .before .before) in omega arith
+add-next-2 c = let g = known (c .before .before .before .before .before .before .before .before .before .before .before .before .before .before .before) in omega arith
 
 same-length : tie.Need-same-length
 same-length c = search needs
@@ -72,10 +66,10 @@ returns : tie.Need-returns
 returns c =
     let q = c .before .before .before .before in
     let p = q .before .before .before .before .before .before .before in
-    let l = p .before .before .before .before in
+    let l = p .before .before .before in
     let k = l .before in
     λ m. did-nop (dg k) m (s k .args .stored .now) (s k .args .output .now) (s k .pre .0) (s k .pre .2) (s k .pre .1) (count-is k)
-    (l .last .ensures ∙ ap lastOf (k .before .word-at .ensures)) (p .before .head .ensures) (p .put-both .ensures) (q .put-advert .ensures)
+    (l .last .ensures ∙ ap lastOf (k .before .word-at .ensures)) (p .put-head .ensures) (q .put-advert .ensures)
 
 pub carry-nop-spec : {M : Type 1} → statement M
 carry-nop-spec =
@@ -84,8 +78,7 @@ carry-nop-spec =
     word-at-requires
     count-requires
     last-requires
-    head-requires
-    put-both-requires
+    put-head-requires
     add-put-advert
     put-advert-requires
     add-words

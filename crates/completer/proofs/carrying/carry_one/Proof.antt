@@ -1,6 +1,6 @@
 -- `completer::carrying::carry_one` meets its contract: each kind has its own function, and no request is a response. Assumes nothing.
 use mathlib.Core.Path.{refl}
-use Rattle.completer.proofs.OneCommand.{fitting}
+use Rattle.completer.proofs.Laws.OneCommand.{fitting}
 use borrow.Author.Needs.{needs}
 use Rattle.completer.proofs.carrying.carry_one.Statement.{statement}
 use Rattle.completer.proofs.carrying.carry_one.Tie as tie

@@ -1,15 +1,15 @@
 -- `completer::carrying::carry_read` meets its contract: it fails, or it is answered with the words of memory. Assumes nothing.
-use Prim.Native.Nat.{ℕ, _+_, _/_, _<_, _^_}
+use Prim.Native.Nat.{ℕ, _+_, _/_}
 use mathlib.Core.Path.{_≡_, refl, sym, ap, _∙_}
 use mathlib.Core.List.{List}
 use native.Mathlib.Omega.{arith}
-use lib.ListN.{length, getD}
+use lib.ListN.{getD}
 use Rattle.word.specs.Words.{wordsOf}
 use Rattle.message.specs.declared.header.Kind.the-variants.{Read}
 use Rattle.message.specs.Header.{countOf, lastOf}
 use lib.ListN.{length-take, length-drop}
-use Rattle.completer.proofs.Moving.{within, read-one, read-part}
-use Rattle.completer.proofs.OneCommand.{Fitting, fitting, failed-there, did-read}
+use Rattle.completer.proofs.Laws.Moving.{within, read-one, read-part}
+use Rattle.completer.proofs.Laws.OneCommand.{Fitting, fitting, failed-there, did-read}
 use borrow.Author.Needs.{needs}
 use Rattle.completer.proofs.carrying.carry_read.Statement.{statement}
 use Rattle.completer.proofs.carrying.carry_read.Tie as tie
@@ -25,9 +25,6 @@ module _ (k : tie.After-count) where
   count-is : k .count .result ≡ countOf (getD (wordsOf dg) (s .args .at) 0)
   count-is = k .count .ensures .0 ∙ ap countOf (k .before .word-at .ensures)
 
-  long : length dg < 2 ^ 64
-  long = s .good .1 .1 .1 .1 .0 .0
-
   known : Fitting Read dg (s .args .task .byte0) (s .args .at) (s .args .n) (k .count .result)
   known = fitting dg (s .pre .0) (s .pre .2) count-is
 
@@ -38,7 +35,7 @@ count-requires : tie.Need-count-requires
 count-requires c κs = search needs
 
 address-at-requires : tie.Need-address-at-requires
-address-at-requires c κs = let g = known (c) in omega arith
+address-at-requires c κs = let g = known c in omega arith
 
 outside-requires : tie.Need-outside-requires
 outside-requires c κs = search needs
@@ -73,11 +70,8 @@ add-next-2 c = let g = known (c .before .before .before .before) in omega arith
 last-requires : tie.Need-last-requires
 last-requires c κs = search needs
 
-head-requires : tie.Need-head-requires
-head-requires c κs = search needs
-
-put-both-requires : tie.Need-put-both-requires
-put-both-requires c κs = search needs
+put-head-requires : tie.Need-put-head-requires
+put-head-requires c κs = search needs
 
 add-put-both : tie.Need-add-put-both
 add-put-both c = search needs
@@ -86,13 +80,13 @@ mul-put-both : tie.Need-mul-put-both
 mul-put-both c = search needs
 
 shared-slice-read-put-both : tie.Need-shared-slice-read-put-both
-shared-slice-read-put-both c = let g = known (c .before .before .before .before .before .before .before .before .before .before .before .before .before .before .before .before .before) in let i = within _ _ _ (sym (c .before .before .before .before .before .before .before .before .before .before .before .before .before .before .before .outside .ensures) ∙ c .before .before .before .before .before .before .before .before .before .before .before .before .before .before .if1 .left) in omega arith
+shared-slice-read-put-both c = let g = known (c .before .before .before .before .before .before .before .before .before .before .before .before .before .before .before .before) in let i = within _ _ _ (sym (c .before .before .before .before .before .before .before .before .before .before .before .before .before .before .outside .ensures) ∙ c .before .before .before .before .before .before .before .before .before .before .before .before .before .if1 .left) in omega arith
 
-put-both-requires-2 : tie.Need-put-both-requires-2
-put-both-requires-2 c κs = let g = known (c .before .before .before .before .before .before .before .before .before .before .before .before .before .before .before .before .before) in (omega arith, omega arith)
+put-both-requires : tie.Need-put-both-requires
+put-both-requires c κs = let g = known (c .before .before .before .before .before .before .before .before .before .before .before .before .before .before .before .before) in (omega arith, omega arith)
 
 add-words : tie.Need-add-words
-add-words c = let g = known (c .before .before .before .before .before .before .before .before .before .before .before .before .before .before .before .before .before .before .before .before .before .before) in omega arith
+add-words c = let g = known (c .before .before .before .before .before .before .before .before .before .before .before .before .before .before .before .before .before .before .before .before .before) in omega arith
 
 same-length-3 : tie.Need-same-length-3
 same-length-3 c = search needs
@@ -103,17 +97,17 @@ same-length-4 c = search needs
 returns-2 : tie.Need-returns-2
 returns-2 c =
     let z = c .before .before .before .before in
-    let i = z .before .before .before .before .before .before .before .before .before .before .before .before .before .before .before in
+    let i = z .before .before .before .before .before .before .before .before .before .before .before .before .before .before in
     let f = i .before in
     let k = f .before .before in
     let w = k .before .word-at .ensures in
     let p = z .before .before .before .before .before .before .before .before .before in
-    let a = z .before .before .before .before .before .before .before .before .before .before .before .before .before .before .address-words .ensures .0 in
+    let a = z .before .before .before .before .before .before .before .before .before .before .before .before .before .address-words .ensures .0 in
     let one : k .count .result ≡ 1 = omega (arith, z .before .before .before .before .if2 .taken) in
     let r = within _ _ _ (sym (f .outside .ensures) ∙ i .if1 .left) in
     did-read (dg k) (s k .args .memory .now) (s k .args .stored .now) (s k .args .output .now) (s k .pre .0) (s k .pre .2) (s k .pre .1) (count-is k)
-    (f .before .address-at .ensures) (f .outside .ensures) (i .if1 .left) (z .before .before .before .before .before .before .before .before .before .before .before .before .before .last .ensures ∙ ap lastOf w) (ap (λ (x : ℕ). s k .args .at + 1 + x) a)
-    (omega (arith, one)) (p .before .head .ensures) (p .put-both .ensures) (read-one (s k .args .memory .now) _ (k .count .result) one (omega (arith, r, one))) (z .put-both2 .ensures)
+    (f .before .address-at .ensures) (f .outside .ensures) (i .if1 .left) (z .before .before .before .before .before .before .before .before .before .before .before .before .last .ensures ∙ ap lastOf w) (ap (λ (x : ℕ). s k .args .at + 1 + x) a)
+    (omega (arith, one)) (p .put-head .ensures) (read-one (s k .args .memory .now) _ (k .count .result) one (omega (arith, r, one))) (z .put-both .ensures)
 
 add-end : tie.Need-add-end
 add-end c = search needs
@@ -131,16 +125,16 @@ part-put-run-start : tie.Need-part-put-run-start
 part-put-run-start c = search needs
 
 part-put-run-end : tie.Need-part-put-run-end
-part-put-run-end c = let g = known (c .before .before .before .before .before .before .before .before .before .before .before .before .before .before .before .before) in let i = within _ _ _ (sym (c .before .before .before .before .before .before .before .before .before .before .before .before .before .before .outside .ensures) ∙ c .before .before .before .before .before .before .before .before .before .before .before .before .before .if1 .left) in omega arith
+part-put-run-end c = let g = known (c .before .before .before .before .before .before .before .before .before .before .before .before .before .before .before) in let i = within _ _ _ (sym (c .before .before .before .before .before .before .before .before .before .before .before .before .before .outside .ensures) ∙ c .before .before .before .before .before .before .before .before .before .before .before .before .if1 .left) in omega arith
 
 put-run-requires : tie.Need-put-run-requires
-put-run-requires c κs = let g = known (c .before .before .before .before .before .before .before .before .before .before .before .before .before .before .before .before .before) in let i = within _ _ _ (sym (c .before .before .before .before .before .before .before .before .before .before .before .before .before .before .before .outside .ensures) ∙ c .before .before .before .before .before .before .before .before .before .before .before .before .before .before .if1 .left) in simp (length-take, length-drop) (omega arith, omega arith, omega arith)
+put-run-requires c κs = let g = known (c .before .before .before .before .before .before .before .before .before .before .before .before .before .before .before .before) in let i = within _ _ _ (sym (c .before .before .before .before .before .before .before .before .before .before .before .before .before .before .outside .ensures) ∙ c .before .before .before .before .before .before .before .before .before .before .before .before .before .if1 .left) in simp (length-take, length-drop) (omega arith, omega arith, omega arith)
 
 add-words-2 : tie.Need-add-words-2
-add-words-2 c = let g = known (c .before .before .before .before .before .before .before .before .before .before .before .before .before .before .before .before .before .before .before .before .before .before) in omega arith
+add-words-2 c = let g = known (c .before .before .before .before .before .before .before .before .before .before .before .before .before .before .before .before .before .before .before .before .before) in omega arith
 
 add-words-3 : tie.Need-add-words-3
-add-words-3 c = let g = known (c .before .before .before .before .before .before .before .before .before .before .before .before .before .before .before .before .before .before .before .before .before .before) in omega arith
+add-words-3 c = let g = known (c .before .before .before .before .before .before .before .before .before .before .before .before .before .before .before .before .before .before .before .before .before) in omega arith
 
 same-length-5 : tie.Need-same-length-5
 same-length-5 c = search needs
@@ -151,15 +145,15 @@ same-length-6 c = search needs
 returns-3 : tie.Need-returns-3
 returns-3 c =
     let z = c .before .before .before .before in
-    let i = z .before .before .before .before .before .before .before .before .before .before .before .before .before .before .before in
+    let i = z .before .before .before .before .before .before .before .before .before .before .before .before .before .before in
     let f = i .before in
     let k = f .before .before in
     let w = k .before .word-at .ensures in
     let p = z .before .before .before .before .before .before .before .before .before in
-    let a = z .before .before .before .before .before .before .before .before .before .before .before .before .before .before .address-words .ensures .0 in
+    let a = z .before .before .before .before .before .before .before .before .before .before .before .before .before .address-words .ensures .0 in
     did-read (dg k) (s k .args .memory .now) (s k .args .stored .now) (s k .args .output .now) (s k .pre .0) (s k .pre .2) (s k .pre .1) (count-is k)
-    (f .before .address-at .ensures) (f .outside .ensures) (i .if1 .left) (z .before .before .before .before .before .before .before .before .before .before .before .before .before .last .ensures ∙ ap lastOf w) (ap (λ (x : ℕ). s k .args .at + 1 + x) a)
-    refl (p .before .head .ensures) (p .put-both .ensures) (read-part (s k .args .memory .now) (f .before .address-at .result / 4) (k .count .result)) (z .put-run .ensures)
+    (f .before .address-at .ensures) (f .outside .ensures) (i .if1 .left) (z .before .before .before .before .before .before .before .before .before .before .before .before .last .ensures ∙ ap lastOf w) (ap (λ (x : ℕ). s k .args .at + 1 + x) a)
+    refl (p .put-head .ensures) (read-part (s k .args .memory .now) (f .before .address-at .result / 4) (k .count .result)) (z .put-run .ensures)
 
 pub carry-read-spec : {M : Type 1} → statement M
 carry-read-spec =
@@ -177,12 +171,11 @@ carry-read-spec =
     address-words-requires
     add-next-2
     last-requires
-    head-requires
-    put-both-requires
+    put-head-requires
     add-put-both
     mul-put-both
     shared-slice-read-put-both
-    put-both-requires-2
+    put-both-requires
     add-words
     same-length-3
     same-length-4

@@ -7,8 +7,8 @@ use lib.ListN.{length, getD}
 use Rattle.word.specs.Words.{wordsOf}
 use Rattle.message.specs.declared.header.Kind.the-variants.{Write}
 use Rattle.message.specs.Header.{countOf, lastOf, byte1Of}
-use Rattle.completer.proofs.Moving.{within, write-one}
-use Rattle.completer.proofs.OneCommand.{Fitting, fitting, failed-there, did-write}
+use Rattle.completer.proofs.Laws.Moving.{within, write-one}
+use Rattle.completer.proofs.Laws.OneCommand.{Fitting, fitting, failed-there, did-write}
 use Rattle.word.proofs.Crossing.{length-wordsOf}
 use borrow.Author.Needs.{needs}
 use Rattle.completer.proofs.carrying.carry_write.Statement.{statement}
@@ -38,7 +38,7 @@ count-requires : tie.Need-count-requires
 count-requires c κs = search needs
 
 address-at-requires : tie.Need-address-at-requires
-address-at-requires c κs = let g = known (c) in omega arith
+address-at-requires c κs = let g = known c in omega arith
 
 outside-requires : tie.Need-outside-requires
 outside-requires c κs = search needs
@@ -76,26 +76,23 @@ byte1-requires c κs = search needs
 last-requires : tie.Need-last-requires
 last-requires c κs = search needs
 
-head-requires : tie.Need-head-requires
-head-requires c κs = search needs
-
-put-both-requires : tie.Need-put-both-requires
-put-both-requires c κs = search needs
+put-head-requires : tie.Need-put-head-requires
+put-head-requires c κs = search needs
 
 add-words : tie.Need-add-words
 add-words c = search needs
 
 word-at-requires-2 : tie.Need-word-at-requires-2
-word-at-requires-2 c κs = let g = known (c .before .before .before .before .before .before .before .before .before .before .before .before .before .before .before .before) in omega arith
+word-at-requires-2 c κs = let g = known (c .before .before .before .before .before .before .before .before .before .before .before .before .before .before) in omega arith
 
 first-requires : tie.Need-first-requires
 first-requires c κs = search needs
 
 store-requires : tie.Need-store-requires
-store-requires c κs = let g = known (c .before .before .before .before .before .before .before .before .before .before .before .before .before .before .before .before .before .before) in let i = within _ _ _ (sym (c .before .before .before .before .before .before .before .before .before .before .before .before .before .before .before .before .outside .ensures) ∙ c .before .before .before .before .before .before .before .before .before .before .before .before .before .before .before .if1 .left) in omega arith
+store-requires c κs = let g = known (c .before .before .before .before .before .before .before .before .before .before .before .before .before .before .before .before .before) in let i = within _ _ _ (sym (c .before .before .before .before .before .before .before .before .before .before .before .before .before .before .before .outside .ensures) ∙ c .before .before .before .before .before .before .before .before .before .before .before .before .before .before .if1 .left) in omega arith
 
 add-next : tie.Need-add-next
-add-next c = let g = known (c .before .before .before .before .before .before .before .before .before .before .before .before .before .before .before .before .before .before .before .before .before) in omega (arith, long (c .before .before .before .before .before .before .before .before .before .before .before .before .before .before .before .before .before .before .before .before .before))
+add-next c = let g = known (c .before .before .before .before .before .before .before .before .before .before .before .before .before .before .before .before .before .before .before .before) in omega (arith, long (c .before .before .before .before .before .before .before .before .before .before .before .before .before .before .before .before .before .before .before .before))
 
 same-length-3 : tie.Need-same-length-3
 same-length-3 c = search needs
@@ -109,23 +106,23 @@ same-length-5 c = search needs
 returns-2 : tie.Need-returns-2
 returns-2 c =
     let z = c .before .before in
-    let i = z .before .before .before .before .before .before .before .before .before .before .before .before .before .before .before .before in
+    let i = z .before .before .before .before .before .before .before .before .before .before .before .before .before .before .before in
     let f = i .before in
     let k = f .before .before in
     let w = k .before .word-at .ensures in
-    let l = z .before .before .before .before .before .before .before .before .before .before .before .before .before in
+    let l = z .before .before .before .before .before .before .before .before .before .before .before .before in
     let p = z .before .before .before .before .before .before .before .before .before in
-    let a = z .before .before .before .before .before .before .before .before .before .before .before .before .before .before .before .address-words .ensures .0 in
+    let a = z .before .before .before .before .before .before .before .before .before .before .before .before .before .before .address-words .ensures .0 in
     let one : k .count .result ≡ 1 = omega (arith, z .before .before .before .before .if2 .taken) in
     did-write (dg k) (s k .args .memory .now) (s k .args .stored .now) (s k .args .output .now) (s k .pre .0) (s k .pre .2) (count-is k) (f .before .address-at .ensures)
     (f .outside .ensures) (i .if1 .left) (l .last .ensures ∙ ap lastOf w) (l .before .byte1 .ensures .0 ∙ ap byte1Of w) (ap (λ (x : ℕ). s k .args .at + 1 + x) a) (omega (arith, one))
-    (p .before .head .ensures) (p .put-both .ensures) (write-one _ (wordsOf (dg k)) _ _ (k .count .result) _ _ (z .store .ensures) (z .before .first .ensures .0) (z .before .before .word-at2 .ensures) one (omega (arith, known k, length-wordsOf (dg k))))
+    (p .put-head .ensures) (write-one _ (wordsOf (dg k)) _ _ (k .count .result) _ _ (z .store .ensures) (z .before .first .ensures .0) (z .before .before .before .word-at2 .ensures) one (omega (arith, known k, length-wordsOf (dg k))))
 
 store-words-requires : tie.Need-store-words-requires
-store-words-requires c κs = let g = known (c .before .before .before .before .before .before .before .before .before .before .before .before .before .before .before .before) in let i = within _ _ _ (sym (c .before .before .before .before .before .before .before .before .before .before .before .before .before .before .outside .ensures) ∙ c .before .before .before .before .before .before .before .before .before .before .before .before .before .if1 .left) in (omega arith, omega arith, omega arith, omega arith)
+store-words-requires c κs = let g = known (c .before .before .before .before .before .before .before .before .before .before .before .before .before .before .before) in let i = within _ _ _ (sym (c .before .before .before .before .before .before .before .before .before .before .before .before .before .outside .ensures) ∙ c .before .before .before .before .before .before .before .before .before .before .before .before .if1 .left) in (omega arith, omega arith, omega arith, omega arith)
 
 add-next-2 : tie.Need-add-next-2
-add-next-2 c = let g = known (c .before .before .before .before .before .before .before .before .before .before .before .before .before .before .before .before .before .before .before) in omega (arith, long (c .before .before .before .before .before .before .before .before .before .before .before .before .before .before .before .before .before .before .before))
+add-next-2 c = let g = known (c .before .before .before .before .before .before .before .before .before .before .before .before .before .before .before .before .before .before) in omega (arith, long (c .before .before .before .before .before .before .before .before .before .before .before .before .before .before .before .before .before .before))
 
 same-length-6 : tie.Need-same-length-6
 same-length-6 c = search needs
@@ -139,16 +136,16 @@ same-length-8 c = search needs
 returns-3 : tie.Need-returns-3
 returns-3 c =
     let z = c .before .before in
-    let i = z .before .before .before .before .before .before .before .before .before .before .before .before .before .before in
+    let i = z .before .before .before .before .before .before .before .before .before .before .before .before .before in
     let f = i .before in
     let k = f .before .before in
     let w = k .before .word-at .ensures in
-    let l = z .before .before .before .before .before .before .before .before .before .before .before in
+    let l = z .before .before .before .before .before .before .before .before .before .before in
     let p = z .before .before .before .before .before .before .before in
-    let a = z .before .before .before .before .before .before .before .before .before .before .before .before .before .address-words .ensures .0 in
+    let a = z .before .before .before .before .before .before .before .before .before .before .before .before .address-words .ensures .0 in
     did-write (dg k) (s k .args .memory .now) (s k .args .stored .now) (s k .args .output .now) (s k .pre .0) (s k .pre .2) (count-is k) (f .before .address-at .ensures)
     (f .outside .ensures) (i .if1 .left) (l .last .ensures ∙ ap lastOf w) (l .before .byte1 .ensures .0 ∙ ap byte1Of w) (ap (λ (x : ℕ). s k .args .at + 1 + x) a) refl
-    (p .before .head .ensures) (p .put-both .ensures) (z .store-words .ensures)
+    (p .put-head .ensures) (z .store-words .ensures)
 
 pub carry-write-spec : {M : Type 1} → statement M
 carry-write-spec =
@@ -167,8 +164,7 @@ carry-write-spec =
     add-from-2
     byte1-requires
     last-requires
-    head-requires
-    put-both-requires
+    put-head-requires
     add-words
     word-at-requires-2
     first-requires

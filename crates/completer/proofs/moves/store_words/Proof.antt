@@ -1,11 +1,9 @@
 -- `completer::moves::store_words` meets its contract: a word merged, a run copied, a word merged. Assumes nothing.
-use mathlib.Core.Path.{_∙_, ap}
 use native.Mathlib.Omega.{arith}
-use lib.ListN.{length}
 use Rattle.word.specs.Words.{wordsOf}
 use Rattle.word.proofs.Runs.{below-all}
 use Rattle.word.proofs.Crossing.{words-below, length-wordsOf}
-use Rattle.completer.proofs.Moving.{write-made}
+use Rattle.completer.proofs.Laws.Moving.{write-made}
 use borrow.Author.Needs.{needs}
 use Rattle.completer.proofs.moves.store_words.Statement.{statement}
 use Rattle.completer.proofs.moves.store_words.Tie as tie

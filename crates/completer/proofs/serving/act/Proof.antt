@@ -1,8 +1,7 @@
 -- `completer::serving::act` meets its contract: the message is carried out, and the record follows. Assumes nothing.
 use mathlib.Core.Path.{_∙_}
-use native.Mathlib.Omega.{arith}
-use Rattle.message.proofs.Going.{read-first}
-use Rattle.completer.proofs.Verdicts.{acted}
+use Rattle.message.proofs.Laws.Going.{read-first}
+use Rattle.completer.proofs.Laws.Verdicts.{acted}
 use borrow.Author.Needs.{needs}
 use Rattle.completer.proofs.serving.act.Statement.{statement}
 use Rattle.completer.proofs.serving.act.Tie as tie

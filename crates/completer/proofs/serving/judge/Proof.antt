@@ -1,8 +1,7 @@
 -- `completer::serving::judge` meets its contract: the walk's refusal, or the rule of tags. Assumes nothing.
-use mathlib.Core.Path.{_≡_, sym, ap, _∙_}
-use native.Mathlib.Omega.{arith}
-use Rattle.message.proofs.Going.{walk-means, walk-wrong, read-first}
-use Rattle.completer.proofs.Verdicts.{judged-wrong, judged-means}
+use mathlib.Core.Path.{sym, _∙_}
+use Rattle.message.proofs.Laws.Going.{walk-means, walk-wrong, read-first}
+use Rattle.completer.proofs.Laws.Verdicts.{judged-wrong, judged-means}
 use borrow.Author.Needs.{needs}
 use Rattle.completer.proofs.serving.judge.Statement.{statement}
 use Rattle.completer.proofs.serving.judge.Tie as tie

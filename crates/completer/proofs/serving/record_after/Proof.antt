@@ -1,5 +1,4 @@
 -- `completer::serving::record_after` meets its contract, by whether the answer is kept. Assumes nothing.
-use mathlib.Core.Path.{refl}
 use borrow.Author.Needs.{needs}
 use Rattle.completer.proofs.serving.record_after.Statement.{statement}
 use Rattle.completer.proofs.serving.record_after.Tie as tie

@@ -1,9 +1,7 @@
 -- `completer::serving::serve` meets its contract: the verdict decides. Assumes nothing.
-use Prim.Native.Nat.{ℕ}
-use mathlib.Core.Path.{_≡_, sym, ap, _∙_}
-use mathlib.Core.Bool.{Bool, cond}
+use mathlib.Core.Path.{sym, _∙_}
 use Rattle.completer.specs.Carrying.{asked}
-use Rattle.completer.proofs.Verdicts.{carrying, again-fits, served-carried, served-by}
+use Rattle.completer.proofs.Laws.Verdicts.{carrying, again-fits, served-carried, served-by}
 use borrow.Author.Needs.{needs}
 use Rattle.completer.proofs.serving.serve.Statement.{statement}
 use Rattle.completer.proofs.serving.serve.Tie as tie

@@ -1,6 +1,5 @@
 -- `completer::serving::settle` meets its contract: the stored answer or nothing is sent. Assumes nothing.
-use mathlib.Core.Path.{_∙_, ap}
-use Rattle.completer.proofs.Verdicts.{settled, sent-again}
+use Rattle.completer.proofs.Laws.Verdicts.{settled, sent-again}
 use borrow.Author.Needs.{needs}
 use Rattle.completer.proofs.serving.settle.Statement.{statement}
 use Rattle.completer.proofs.serving.settle.Tie as tie

@@ -1,7 +1,7 @@
 -- `completer::serving::verdict_of` meets its contract: check 1 in its two halves, then the datagram. Assumes nothing.
 use Rattle.word.proofs.Rules.{flag-on, flag-off}
 use Rattle.completer.specs.Serving.{verdictOf}
-use Rattle.completer.proofs.Verdicts.{kept-room}
+use Rattle.completer.proofs.Laws.Verdicts.{kept-room}
 use borrow.Author.Needs.{needs}
 use Rattle.completer.proofs.serving.verdict_of.Statement.{statement}
 use Rattle.completer.proofs.serving.verdict_of.Tie as tie

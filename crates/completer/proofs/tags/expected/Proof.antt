@@ -1,7 +1,7 @@
 -- `completer::tags::expected` meets its contract. Assumes nothing.
 use native.Mathlib.Omega.{arith}
 use Rattle.completer.specs.Tags.{expected}
-use Rattle.completer.proofs.Verdicts.{holds}
+use Rattle.completer.proofs.Laws.Verdicts.{holds}
 use Rattle.completer.proofs.tags.expected.Statement.{statement}
 use Rattle.completer.proofs.tags.expected.Tie as tie
 

@@ -1,7 +1,7 @@
 -- `completer::tags::mark` meets its contract. Assumes nothing.
 use native.Mathlib.Omega.{arith}
 use Rattle.completer.specs.Tags.{markOf}
-use Rattle.completer.proofs.Verdicts.{holds}
+use Rattle.completer.proofs.Laws.Verdicts.{holds}
 use Rattle.completer.proofs.tags.mark.Statement.{statement}
 use Rattle.completer.proofs.tags.mark.Tie as tie
 

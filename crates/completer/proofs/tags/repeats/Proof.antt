@@ -1,5 +1,4 @@
 -- `completer::tags::repeats` meets its contract. Assumes nothing.
-use Rattle.word.proofs.Rules.{tests}
 use Rattle.completer.specs.Tags.{repeats}
 use Rattle.completer.proofs.tags.repeats.Statement.{statement}
 use Rattle.completer.proofs.tags.repeats.Tie as tie

@@ -1,6 +1,6 @@
 -- `initiator::asked::byte1_by` meets its contract: two fields of four bits. Assumes nothing.
 use native.Mathlib.Omega.{arith}
-use Rattle.initiator.proofs.Passed.{fields-lt}
+use Rattle.initiator.proofs.Laws.Passed.{fields-lt}
 use borrow.Author.Needs.{needs}
 use Rattle.initiator.proofs.asked.byte1_by.Statement.{statement}
 use Rattle.initiator.proofs.asked.byte1_by.Tie as tie

@@ -1,6 +1,6 @@
 -- `initiator::asked::command_fault` meets its contract: each check is a line of `commandFault`, in its order. Assumes nothing.
 use Rattle.word.proofs.Rules.{flag-on, flag-off}
-use Rattle.initiator.proofs.Passed.{count-twelve}
+use Rattle.initiator.proofs.Laws.Passed.{count-twelve}
 use Rattle.initiator.specs.Asked.{commandFault}
 use borrow.Author.Needs.{needs}
 use Rattle.initiator.proofs.asked.command_fault.Statement.{statement}

@@ -1,6 +1,5 @@
 -- `initiator::asked::room_fits` meets its contract: two tests. Assumes nothing.
 use borrow.Author.Tests.{le-leb, lt-leb}
-use Rattle.word.proofs.Rules.{leb-on, leb-off}
 use Rattle.initiator.specs.Asked.{roomFits}
 use borrow.Author.Needs.{needs}
 use Rattle.initiator.proofs.asked.room_fits.Statement.{statement}

@@ -1,6 +1,5 @@
 -- `initiator::build::add` meets its contract: refused, or put. Assumes nothing.
-use mathlib.Core.Path.{_∙_, sym}
-use Rattle.initiator.proofs.Calls.{add-refused, add-taken}
+use Rattle.initiator.proofs.Laws.Calls.{add-refused, add-taken}
 use borrow.Author.Needs.{needs}
 use Rattle.initiator.proofs.build.add.Statement.{statement}
 use Rattle.initiator.proofs.build.add.Tie as tie

@@ -1,7 +1,7 @@
 -- `initiator::build::add_fault` meets its contract: each check is a line of `addFault`, in its order. Assumes nothing.
 use Rattle.word.proofs.Rules.{flag-on, flag-off}
-use Rattle.initiator.proofs.Passed.{usable-bounded}
-use Rattle.initiator.proofs.Calls.{add-open}
+use Rattle.initiator.proofs.Laws.Passed.{usable-bounded}
+use Rattle.initiator.proofs.Laws.Calls.{add-open}
 use Rattle.initiator.specs.Build.{addFault}
 use borrow.Author.Needs.{needs}
 use Rattle.initiator.proofs.build.add_fault.Statement.{statement}

@@ -1,9 +1,9 @@
 -- `initiator::build::close` meets its contract: refused, or LAST set. Assumes nothing.
 use lib.ListN.{length}
-use Rattle.initiator.proofs.Calls.{close-refused, close-taken}
+use Rattle.initiator.proofs.Laws.Calls.{close-refused, close-taken}
 use mathlib.Core.Path.{_∙_, sym}
 use native.Mathlib.Omega.{arith}
-use Rattle.initiator.proofs.Passed.{closes}
+use Rattle.initiator.proofs.Laws.Passed.{closes}
 use borrow.Author.Needs.{needs}
 use Rattle.initiator.proofs.build.close.Statement.{statement}
 use Rattle.initiator.proofs.build.close.Tie as tie

@@ -1,11 +1,10 @@
 -- `initiator::build::place` meets its contract: header, address and data are the command's words. Assumes nothing.
 use lib.ListN.{length}
-use Rattle.message.proofs.Headers.{address-le}
 use lib.Seq.{length-take-le}
 use mathlib.Core.Path.{sym}
 use native.Mathlib.Omega.{arith}
-use Rattle.initiator.proofs.Passed.{adds}
-use Rattle.initiator.proofs.Calls.{placed-header, placed-address, placed-sent, placed-room, placed-bytes, placed-record}
+use Rattle.initiator.proofs.Laws.Passed.{adds}
+use Rattle.initiator.proofs.Laws.Calls.{placed-header, placed-address, placed-room, placed-bytes, placed-record}
 use borrow.Author.Needs.{needs}
 use Rattle.initiator.proofs.build.place.Statement.{statement}
 use Rattle.initiator.proofs.build.place.Tie as tie
@@ -60,9 +59,10 @@ same-length c = search needs
 
 returns : tie.Need-returns
 returns c =
-    let s = c .before .before .before .before .before .before .before .before .before .before .before .before .before .before .before in
-    (placed-record (length (s .args .out .now)) (s .args .b) (s .args .asked) (s .args .payload .now) (s .pre) (c .before .before .before .before .before .before .before .before .before .before .before .before .byte0-of .ensures .0) (c .before .before .before .before .before .before .before .before .before .before .before .kind-of .ensures) (c .before .before .before .before .before .before .before .before .before .before .count-by .ensures) (c .grow .ensures),
-     placed-bytes (length (s .args .out .now)) (s .args .b) (s .args .asked) (s .args .payload .now) (s .pre) (s .args .out .now) (s .args .b .words) (c .before .before .before .before .before .before .before .before .before .before .before .before .byte0-of .ensures .0) (c .before .before .before .before .before .before .before .before .before .before .before .kind-of .ensures) (c .before .before .before .before .before .before .before .before .before .before .count-by .ensures) (c .before .before .before .before .before .before .before .before .before .header-by .ensures) (c .before .before .before .before .before .before .before .before .address-words .ensures .0) (c .before .before .before .before .before .before .before .data-words .ensures .0) (c .before .before .before .before .before .address-sent .ensures .0) (c .before .before .before .put-command .ensures))
+    let s = c .before .before .before .before .before .before .before .before .before .before .before .before .before .before .before in (
+      placed-record (length (s .args .out .now)) (s .args .b) (s .args .asked) (s .args .payload .now) (s .pre) (c .before .before .before .before .before .before .before .before .before .before .before .before .byte0-of .ensures .0) (c .before .before .before .before .before .before .before .before .before .before .before .kind-of .ensures) (c .before .before .before .before .before .before .before .before .before .before .count-by .ensures) (c .grow .ensures),
+      placed-bytes (length (s .args .out .now)) (s .args .b) (s .args .asked) (s .args .payload .now) (s .pre) (s .args .out .now) (s .args .b .words) (c .before .before .before .before .before .before .before .before .before .before .before .before .byte0-of .ensures .0) (c .before .before .before .before .before .before .before .before .before .before .before .kind-of .ensures) (c .before .before .before .before .before .before .before .before .before .before .count-by .ensures) (c .before .before .before .before .before .before .before .before .before .header-by .ensures) (c .before .before .before .before .before .before .before .before .address-words .ensures .0) (c .before .before .before .before .before .before .before .data-words .ensures .0) (c .before .before .before .before .before .address-sent .ensures .0) (c .before .before .before .put-command .ensures),
+    )
 
 pub place-spec : {M : Type 1} → statement M
 place-spec =

@@ -1,7 +1,7 @@
 -- `initiator::build::put_address` meets its contract: none, one or two words. Assumes nothing.
 use mathlib.Core.Path.{_≡_}
 use native.Mathlib.Omega.{arith}
-use Rattle.initiator.proofs.Calls.{put-none, put-one, put-two, one-top}
+use Rattle.initiator.proofs.Laws.Calls.{put-none, put-one, put-two, one-top}
 use borrow.Author.Needs.{needs}
 use Rattle.initiator.proofs.build.put_address.Statement.{statement}
 use Rattle.initiator.proofs.build.put_address.Tie as tie

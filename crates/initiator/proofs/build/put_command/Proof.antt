@@ -1,5 +1,5 @@
 -- `initiator::build::put_command` meets its contract: three runs, one behind the other. Assumes nothing.
-use Rattle.initiator.proofs.Calls.{put-pieces}
+use Rattle.initiator.proofs.Laws.Calls.{put-pieces}
 use borrow.Author.Needs.{needs}
 use Rattle.initiator.proofs.build.put_command.Statement.{statement}
 use Rattle.initiator.proofs.build.put_command.Tie as tie

@@ -1,8 +1,7 @@
 -- `initiator::building::reached` meets its contract: begin's four, then nothing added or something. Assumes nothing.
 use borrow.Author.Tests.{eq-eqb, ne-eqb}
-use Rattle.word.proofs.Rules.{tests}
 use Rattle.word.proofs.Rules.{flag-on, flag-off}
-use Rattle.initiator.proofs.Passed.{start-tag}
+use Rattle.initiator.proofs.Laws.Passed.{start-tag}
 use Rattle.initiator.specs.Building.{reachable}
 use borrow.Author.Needs.{needs}
 use Rattle.initiator.proofs.building.reached.Statement.{statement}

@@ -1,7 +1,6 @@
 -- `initiator::building::writes_ok` meets its contract: three tests. Assumes nothing.
 use Rattle.message.specs.Limits.{limit}
 use Prim.Native.Nat.{_+_, _-_}
-use Prim.Native.Nat.{_≤_}
 use native.Mathlib.Nat.{mul-le-mul}
 use Rattle.word.proofs.Rules.{tests}
 use native.Mathlib.Omega.{arith}

@@ -12,7 +12,7 @@ use Rattle.message.specs.declared.refusal.Refusal.{Refusal}
 use Rattle.message.specs.Header.{kindOf, bodyWords}
 use Rattle.message.specs.Request.{read}
 use Rattle.initiator.specs.Outcome.{badOf, refusedWith, toldOf, lookBeside, answersTo}
-use Rattle.initiator.proofs.Telling.{Sides, next, sides-starts, sides-bad, sides-found, sides-last, sides-next}
+use Rattle.initiator.proofs.Laws.Telling.{Sides, next, sides-starts, sides-bad, sides-found, sides-last, sides-next}
 use Rattle.initiator.proofs.outcome.look_through.Statement.{statement}
 use Rattle.initiator.proofs.outcome.look_through.Tie as tie
 

@@ -9,9 +9,9 @@ use Rattle.word.proofs.Rules.{flag-on, flag-off}
 use Rattle.word.proofs.Runs.{below-all}
 use Rattle.message.specs.Header.{discoveryOf}
 use Rattle.message.specs.Request.{lengthOk}
-use Rattle.message.proofs.Back.{right}
-use Rattle.message.proofs.Going.{Meant, walk-means, walk-wrong, read-first}
-use Rattle.initiator.proofs.Told.{told-wrong, ready, told-discovery, told-long, told-byte, told-through}
+use Rattle.message.proofs.Laws.Back.{right}
+use Rattle.message.proofs.Laws.Going.{Meant, walk-means, walk-wrong, read-first}
+use Rattle.initiator.proofs.Laws.Told.{told-wrong, ready, told-discovery, told-long, told-byte, told-through}
 use borrow.Author.Needs.{needs}
 use Rattle.initiator.proofs.outcome.told.Statement.{statement}
 use Rattle.initiator.proofs.outcome.told.Tie as tie

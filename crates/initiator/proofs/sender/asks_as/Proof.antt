@@ -2,8 +2,8 @@
 use mathlib.Core.Path.{_≡_, sym, _∙_}
 use native.Mathlib.Omega.{arith}
 use denote.Ref.{now}
-use Rattle.message.proofs.Going.{Meant, walk-means, walk-wrong, read-first}
-use Rattle.initiator.proofs.Sending.{asks-wrong, asks-discovery, asks-tag}
+use Rattle.message.proofs.Laws.Going.{Meant, walk-means, walk-wrong, read-first}
+use Rattle.initiator.proofs.Laws.Sending.{asks-wrong, asks-discovery, asks-tag}
 use borrow.Author.Needs.{needs}
 use Rattle.initiator.proofs.sender.asks_as.Statement.{statement}
 use Rattle.initiator.proofs.sender.asks_as.Tie as tie

@@ -2,7 +2,7 @@
 use mathlib.Core.Path.{_∙_}
 use Rattle.word.proofs.Rules.{flag-on, flag-off}
 use Rattle.initiator.specs.Sender.{startedAt}
-use Rattle.initiator.proofs.Starting.{word-lt}
+use Rattle.initiator.proofs.Laws.Starting.{word-lt}
 use borrow.Author.Needs.{needs}
 use Rattle.initiator.proofs.sender.started.Statement.{statement}
 use Rattle.initiator.proofs.sender.started.Tie as tie

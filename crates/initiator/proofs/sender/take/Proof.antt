@@ -5,7 +5,7 @@ use mathlib.Core.Path.{ap}
 use native.Mathlib.Omega.{arith}
 use Rattle.initiator.specs.declared.outcome.Outcome.{Outcome}
 use Rattle.initiator.specs.Sender.{takeOf}
-use Rattle.initiator.proofs.Sending.{send-next, take-wrong, take-right}
+use Rattle.initiator.proofs.Laws.Sending.{send-next, take-wrong, take-right}
 use borrow.Author.Needs.{needs}
 use Rattle.initiator.proofs.sender.take.Statement.{statement}
 use Rattle.initiator.proofs.sender.take.Tie as tie

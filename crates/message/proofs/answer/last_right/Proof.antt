@@ -1,5 +1,5 @@
 -- `message::answer::last_right` meets its contract: one flag beside another. Assumes nothing.
-use Rattle.message.proofs.Answers.{beq-set}
+use Rattle.message.proofs.Laws.Answers.{beq-set}
 use mathlib.Core.Path.{sym, _∙_}
 use borrow.Author.Needs.{needs}
 use Rattle.message.proofs.answer.last_right.Statement.{statement}

@@ -1,7 +1,7 @@
 -- `message::answer::status_no` meets its contract: each arm is a case of `statusNo`. Assumes nothing.
 use borrow.Author.Needs.{needs}
 use Rattle.message.specs.Answer.{statusNo}
-use Rattle.message.proofs.Answers.{status-rest}
+use Rattle.message.proofs.Laws.Answers.{status-rest}
 use Rattle.message.proofs.answer.status_no.Statement.{statement}
 use Rattle.message.proofs.answer.status_no.Tie as tie
 

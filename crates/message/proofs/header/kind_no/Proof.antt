@@ -2,7 +2,7 @@
 use borrow.Author.Needs.{needs}
 use mathlib.Core.Path.{refl}
 use Rattle.message.specs.Header.{kindNo}
-use Rattle.message.proofs.Headers.{kind-rest}
+use Rattle.message.proofs.Laws.Headers.{kind-rest}
 use Rattle.message.proofs.header.kind_no.Statement.{statement}
 use Rattle.message.proofs.header.kind_no.Tie as tie
 

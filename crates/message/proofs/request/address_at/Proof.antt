@@ -1,6 +1,6 @@
 -- `message::request::address_at` meets its contract: its words, the low one first. Assumes nothing.
 use lib.ListN.{getD}
-use Rattle.message.proofs.Standing.{address-none, address-one, address-two}
+use Rattle.message.proofs.Laws.Standing.{address-none, address-one, address-two}
 use Rattle.word.specs.Words.{wordsOf}
 use native.Mathlib.Omega.{arith}
 use Prim.Native.Nat.{ℕ, _+_}

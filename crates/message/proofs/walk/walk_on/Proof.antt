@@ -13,7 +13,7 @@ use Rattle.message.specs.declared.walk.Step.the-variants.{Read, Refused}
 use Rattle.message.specs.declared.walk.Walked.the-variants.{Malformed}
 use Rattle.message.specs.Header.{kindOf, replyWords}
 use Rattle.message.specs.Walk.{stepAt, refusalOf}
-use Rattle.message.proofs.Going.{Going, got, going-starts, going-refused, going-last, going-small, going-on, going-less}
+use Rattle.message.proofs.Laws.Going.{Going, got, going-starts, going-refused, going-last, going-small, going-on, going-less}
 use Rattle.message.proofs.walk.walk_on.Statement.{statement}
 use Rattle.message.proofs.walk.walk_on.Tie as tie
 

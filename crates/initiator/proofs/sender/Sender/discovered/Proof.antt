@@ -11,10 +11,10 @@ use Rattle.word.proofs.Crossing.{length-wordsOf}
 use Rattle.message.specs.declared.answer.Look.the-variants.{Item, Bad}
 use Rattle.message.specs.Request.{lengthOk}
 use Rattle.message.specs.Answer.{answerByte, lookAt}
-use Rattle.message.proofs.Back.{right}
+use Rattle.message.proofs.Laws.Back.{right}
 use Rattle.initiator.specs.Outcome.{badOf}
 use Rattle.initiator.specs.Sender.{discoveryByte, spoiled, startedAt}
-use Rattle.initiator.proofs.Starting.{start-long, start-byte, start-bad, start-found, start-as, start-two, start-word}
+use Rattle.initiator.proofs.Laws.Starting.{start-long, start-byte, start-bad, start-found, start-as, start-two, start-word}
 use borrow.Author.Needs.{needs}
 use Rattle.initiator.proofs.sender.Sender.discovered.Statement.{statement}
 use Rattle.initiator.proofs.sender.Sender.discovered.Tie as tie

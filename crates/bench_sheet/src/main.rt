@@ -1,0 +1,271 @@
+// Runs every line of the bench sheet on the real call, marked or not, and names what each gave: the refusal or the words sent, the
+// words of memory that a line speaks of, and the record.
+use completer::serving;
+use completer::tags::TagRecord;
+use libc::STDOUT_FILENO;
+
+fn say(text: &[u8]) {
+    io::write_all(STDOUT_FILENO, text);
+}
+
+fn number(text: &[u8], n: u64) {
+    say(text);
+    io::print_decimal(STDOUT_FILENO, n);
+}
+
+fn word_of(text: &[u8], w: u32) {
+    say(text);
+    io::print_hex(STDOUT_FILENO, w as u64, 8);
+}
+
+// The first words of what was sent: all where they are few.
+fn sent_words(output: &[u8], words: usize) {
+    let mut i = 0;
+    while i < words {
+        if output.len() / 4 <= i {
+            return;
+        }
+        if 4 <= i {
+            say(b" ..");
+            return;
+        }
+        word_of(b" ", word::word_at(output, i));
+        i += 1;
+    }
+}
+
+fn say_tags(tags: TagRecord) {
+    if tags.fresh {
+        say(b"; fresh\n");
+    } else {
+        number(b"; tag ", tags.tag as u64);
+        say(b"\n");
+    }
+}
+
+// A datagram of words, served; its line says what came of it. Hands the record on.
+fn serve(
+    label: &[u8],
+    memory: &mut [u32; 8],
+    stored: &mut [u32; message::LIMIT],
+    output: &mut [u8; message::LIMIT_BYTES],
+    tags: TagRecord,
+    datagram: &[u8],
+) -> TagRecord {
+    say(label);
+    let served = serving::serve(memory, stored, output, tags, datagram);
+    let refusal = served.refusal;
+    if refusal.number != 0 {
+        number(b": refused ", refusal.number as u64);
+    } else {
+        number(b": sent ", (served.sent / 4) as u64);
+        say(b" words");
+        sent_words(output, served.sent / 4);
+    }
+    word_of(b"; words 0 and 1 ", memory[0]);
+    word_of(b" ", memory[1]);
+    let tags = served.tags;
+    say_tags(tags);
+    tags
+}
+
+// The same of words.
+fn line(
+    label: &[u8],
+    memory: &mut [u32; 8],
+    stored: &mut [u32; message::LIMIT],
+    output: &mut [u8; message::LIMIT_BYTES],
+    tags: TagRecord,
+    words: &[u32],
+) -> TagRecord {
+    let mut datagram = [0u8; 64];
+    let n = words.len();
+    if 16 < n {
+        return tags;
+    }
+    word::run::put_words(&mut datagram, 0, words);
+    serve(label, memory, stored, output, tags, &datagram[..4 * n])
+}
+
+// "Memory of 8 zero words but word 4 = F00DFACE".
+fn bench() -> [u32; 8] {
+    [0, 0, 0, 0, 0xF00D_FACE, 0, 0, 0]
+}
+
+// Discoveries by the specification's own examples.
+fn discoveries(stored: &mut [u32; message::LIMIT], output: &mut [u8; message::LIMIT_BYTES]) {
+    let fresh = TagRecord::fresh();
+    let mut memory = bench();
+    line(
+        b"* NOP",
+        &mut memory,
+        stored,
+        output,
+        fresh,
+        &[0x8001_0080, 4],
+    );
+    line(
+        b"* forced read",
+        &mut memory,
+        stored,
+        output,
+        fresh,
+        &[0x8001_00A0, 0x10],
+    );
+    line(
+        b"* forced write",
+        &mut memory,
+        stored,
+        output,
+        fresh,
+        &[0x8001_0F90, 4, 0xFEED_C0DE],
+    );
+}
+
+// The lines (a) to (c), each on what it stands after.
+fn tagged(stored: &mut [u32; message::LIMIT], output: &mut [u8; message::LIMIT_BYTES]) {
+    let fresh = TagRecord::fresh();
+    let feed = [0x8001_0F10, 4, 0xFEED_C0DE];
+    let mut memory = bench();
+    let tags = line(b"* (a)", &mut memory, stored, output, fresh, &feed);
+    let forced = line(
+        b"  a discovery write of 0",
+        &mut memory,
+        stored,
+        output,
+        tags,
+        &[0x8001_0F90, 4, 0],
+    );
+    let again = line(b"* (b)", &mut memory, stored, output, forced, &feed);
+    line(
+        b"* (c)",
+        &mut memory,
+        stored,
+        output,
+        again,
+        &[0x8001_0411, 4, 0xAABB_CCDD],
+    );
+}
+
+// (d), and a tag that wraps.
+fn out_of_step(stored: &mut [u32; message::LIMIT], output: &mut [u8; message::LIMIT_BYTES]) {
+    let fresh = TagRecord::fresh();
+    let feed = [0x8001_0F10, 4, 0xFEED_C0DE];
+    let mut memory = bench();
+    let tags = line(b"  (a)", &mut memory, stored, output, fresh, &feed);
+    line(
+        b"* (d)",
+        &mut memory,
+        stored,
+        output,
+        tags,
+        &[0x8001_0F12, 4, 0],
+    );
+    let wrapped = TagRecord {
+        fresh: false,
+        tag: 15,
+        words: 1,
+    };
+    line(
+        b"* after tag 15, tag 0",
+        &mut memory,
+        stored,
+        output,
+        wrapped,
+        &feed,
+    );
+}
+
+// Commands that fail.
+fn errors(stored: &mut [u32; message::LIMIT], output: &mut [u8; message::LIMIT_BYTES]) {
+    let fresh = TagRecord::fresh();
+    let mut memory = bench();
+    line(
+        b"* read past the end",
+        &mut memory,
+        stored,
+        output,
+        fresh,
+        &[0x8002_0020, 0x1C],
+    );
+    line(
+        b"* OK, then past the end",
+        &mut memory,
+        stored,
+        output,
+        fresh,
+        &[0x0001_0F10, 0, 0x1111_1111, 0x8001_0F10, 0x20, 0x2222_2222],
+    );
+    line(
+        b"* address past 2^32",
+        &mut memory,
+        stored,
+        output,
+        fresh,
+        &[0x8001_0F50, 4, 1, 0],
+    );
+}
+
+// The lines that are run only.
+fn refusals(stored: &mut [u32; message::LIMIT], output: &mut [u8; message::LIMIT_BYTES]) {
+    let fresh = TagRecord::fresh();
+    let mut memory = bench();
+    serve(b"  no bytes", &mut memory, stored, output, fresh, &[0u8; 0]);
+    serve(
+        b"  3 bytes",
+        &mut memory,
+        stored,
+        output,
+        fresh,
+        &[0x10u8, 0x0F, 0x01],
+    );
+    line(
+        b"  count 0",
+        &mut memory,
+        stored,
+        output,
+        fresh,
+        &[0x8000_0F10, 4],
+    );
+    line(
+        b"  a reserved bit",
+        &mut memory,
+        stored,
+        output,
+        fresh,
+        &[0x9001_0F10, 4, 0],
+    );
+}
+
+// Reads whose answer just fits, and does not.
+fn lengths(stored: &mut [u32; message::LIMIT], output: &mut [u8; message::LIMIT_BYTES]) {
+    let fresh = TagRecord::fresh();
+    let mut memory = bench();
+    line(
+        b"  the longest read",
+        &mut memory,
+        stored,
+        output,
+        fresh,
+        &[0x816F_0020, 0],
+    );
+    line(
+        b"  one word longer",
+        &mut memory,
+        stored,
+        output,
+        fresh,
+        &[0x8170_0020, 0],
+    );
+}
+
+fn main() {
+    let mut stored = [0u32; message::LIMIT];
+    let mut output = [0u8; message::LIMIT_BYTES];
+    discoveries(&mut stored, &mut output);
+    tagged(&mut stored, &mut output);
+    out_of_step(&mut stored, &mut output);
+    errors(&mut stored, &mut output);
+    refusals(&mut stored, &mut output);
+    lengths(&mut stored, &mut output);
+}

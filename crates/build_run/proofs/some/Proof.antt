@@ -1,0 +1,18 @@
+-- `build_run::some` meets its contract: the part lies within the data. Assumes nothing.
+use mathlib.Core.Path.{sym}
+use lib.Seq.{length-take-le}
+use borrow.Author.Needs.{needs}
+use Rattle.build_run.proofs.some.Statement.{statement}
+use Rattle.build_run.proofs.some.Tie as tie
+
+returns : tie.Need-returns
+returns c = search needs
+
+slice-aggregate-result : tie.Need-slice-aggregate-result
+slice-aggregate-result c = sym (length-take-le _ _ (c .before .if1 .left))
+
+returns-2 : tie.Need-returns-2
+returns-2 c = search needs
+
+pub some-spec : {M : Type 1} → statement M
+some-spec = tie.close (tie.spec returns slice-aggregate-result returns-2)

@@ -1,0 +1,2 @@
+-- What the call in place promises.
+pub mod InPlace

@@ -1,0 +1,35 @@
+// The controller's call in place, for its main loop: the tag record is lent by reference.
+//
+// The one function is what the firmware's static library exports; it holds the whole call, with no wrapper around it.
+ghost use mathlib.Core.Path.{_≡_};
+ghost use Rattle.controller.specs.InPlace.{ServesInPlace};
+use completer::serving;
+use completer::tags::TagRecord;
+use message::refusal::Refusal;
+
+// What a call gives beside the record: the refusal (number 0: none) and the bytes sent, which stand at the front of the output.
+#[repr(C)]
+pub struct Sent {
+    pub refusal: Refusal,
+    pub sent: usize,
+}
+
+// One datagram served, for any buffers, any record and any bytes; the record then holds what the call by value gives.
+#[no_mangle]
+pub extern "C" fn charkhavo_serve(
+    memory: &mut [u32],
+    stored: &mut [u32],
+    output: &mut [u8],
+    tags: &mut TagRecord,
+    datagram: &[u8],
+) -> Sent
+    ensures { λ r. ⌜ ServesInPlace (now (memory .entry)) (now (stored .entry)) (now (output .entry)) (now (tags .entry)) (now (datagram .entry)) r
+        (now (memory .exit)) (now (stored .exit)) (now (output .exit)) (now (tags .exit)) ⌝ }
+{
+    let served = serving::serve(memory, stored, output, *tags, datagram);
+    *tags = served.tags;
+    Sent {
+        refusal: served.refusal,
+        sent: served.sent,
+    }
+}

@@ -1,0 +1,79 @@
+-- The sender's checks, one by one. The proofs of the sender's functions cite these. Assumes nothing.
+use Prim.Native.Nat.{ℕ, _+_, _%_, _<_, _≤_}
+use mathlib.Core.Path.{_≡_, refl, sym, ap, _∙_}
+use mathlib.Core.Bool.{Bool, true, false, cond}
+use mathlib.Core.List.{List}
+use native.Mathlib.Omega.{arith}
+use borrow.Author.Tests.{ltb-true}
+use lib.Dec.{ltb, eqb}
+use lib.ListN.{getD, length}
+use Rattle.message.specs.declared.refusal.Refusal.{Refusal}
+use Rattle.message.specs.Header.{tagOf, discoveryOf}
+use Rattle.message.specs.Walk.{refusal}
+use Rattle.message.specs.Request.{Request, Reading, Wrong, Means, read}
+use Rattle.message.specs.Answer.{Answered, judge}
+use Rattle.message.proofs.Laws.Faults.{passed}
+use Rattle.message.proofs.Laws.Going.{read-first}
+use Rattle.message.proofs.Laws.Looking.{Some, judge-some}
+use Rattle.initiator.specs.declared.sender.Sender.{Sender}
+use Rattle.initiator.specs.declared.sender.Moved.{Moved}
+use Rattle.initiator.specs.declared.outcome.Outcome.{Outcome}
+use Rattle.initiator.specs.Outcome.{answerTo, toldOf, outcomeOf, refusalIn}
+use Rattle.initiator.specs.Sender.{asksAs, sendFault, takenBy}
+
+-- 31 by its clauses
+module _ (next : ℕ) (message : List ℕ) where
+  pub asks-wrong : (r : Refusal) → read message ≡ Wrong r → false ≡ asksAs next (read message)
+  unfolding asksAs
+  asks-wrong r e = rw e
+
+  module _ (r : Request) (is : read message ≡ Means r) (byte0 : ℕ) (first : byte0 ≡ getD message 0 0) where
+    byte-is : byte0 ≡ r .byte0
+    byte-is = first ∙ read-first message r is .1
+
+    pub asks-discovery : discoveryOf byte0 ≡ true → false ≡ asksAs next (read message)
+    unfolding asksAs
+    asks-discovery d = rw (is, ← byte-is, d)
+
+    pub asks-tag : discoveryOf byte0 ≡ false → eqb (tagOf byte0) next ≡ asksAs next (read message)
+    unfolding asksAs
+    asks-tag d = rw (is, ← byte-is, d)
+
+-- a send that is not refused has an allowed next tag
+pub send-next : (s : Sender) (message : List ℕ) → sendFault s message ≡ 0 → s .next < 16
+unfolding sendFault
+send-next s message e = ltb-true _ _ (passed (ltb (s .next) 16) 37 _ (omega arith) e .0)
+
+-- an answer is taken exactly if it tells no refusal
+pub answer-some : (p : Reading Request) (answer : List ℕ) → Some (answerTo p answer)
+unfolding answerTo
+answer-some (Wrong r) answer = omega arith
+answer-some (Means r) answer = go (discoveryOf (r .byte0))
+  where
+    go : (b : Bool) → Some (cond b (Wrong (refusal 31)) (judge r answer))
+    go true = omega arith
+    go false = judge-some r answer
+
+module _ (s : Sender) where
+  taken-wrong : (p : Reading (List Answered)) → Some p → (refusalIn p .number ≡ 0 → ⊥) → record { refusal = refusalIn p; sender = s } ≡ takenBy s p
+  taken-wrong (Wrong r) h z = refl
+  taken-wrong (Means items) h z = absurd (z refl)
+
+  taken-right : (p : Reading (List Answered)) → Some p → refusalIn p .number ≡ 0
+      → record { refusal = refusalIn p; sender = record { next = (s .next + 1) % 16; waits = false } } ≡ takenBy s p
+  taken-right (Wrong r) h z = absurd (omega arith)
+  taken-right (Means items) h z = refl
+
+  module _ (message answer : List ℕ) where
+    refusal-is : outcomeOf message answer 0 .refusal ≡ refusalIn (answerTo (read message) answer)
+    unfolding outcomeOf toldOf
+    refusal-is = refl
+
+    pub take-wrong : {r : Refusal} → r ≡ outcomeOf message answer 0 .refusal → (r .number ≡ 0 → ⊥) → record { refusal = r; sender = s } ≡ takenBy s (answerTo (read message) answer)
+    take-wrong e z =
+        rw (e, refusal-is) (taken-wrong (answerTo (read message) answer) (answer-some (read message) answer) (λ q. z (ap (λ (x : Refusal). x .number) (e ∙ refusal-is) ∙ q)))
+
+    pub take-right : {r : Refusal} → r ≡ outcomeOf message answer 0 .refusal → r .number ≡ 0
+        → record { refusal = r; sender = record { next = (s .next + 1) % 16; waits = false } } ≡ takenBy s (answerTo (read message) answer)
+    take-right e z =
+        rw (e, refusal-is) (taken-right (answerTo (read message) answer) (answer-some (read message) answer) (sym (ap (λ (x : Refusal). x .number) (e ∙ refusal-is)) ∙ z))

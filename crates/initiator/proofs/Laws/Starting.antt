@@ -1,0 +1,89 @@
+-- A sender made from the answer to the fixed discovery, check by check. The proof of `discovered` cites these. Assumes nothing.
+use Prim.Native.Nat.{ℕ, zero, suc, _+_, _≤_, _<_}
+use mathlib.Core.Path.{_≡_, refl, sym, ap, _∙_}
+use mathlib.Core.Bool.{Bool, true, false, cond, false≢true}
+use mathlib.Core.List.{List, [], _∷_}
+use native.Mathlib.Omega.{arith}
+use borrow.Author.Tests.{ltb-true, eqb-true}
+use lib.Dec.{ltb, eqb}
+use lib.ListN.{length, getD, take, drop}
+use lib.Seq.{getD-take, getD-drop}
+use Rattle.word.specs.Words.{wordsOf}
+use Rattle.message.specs.declared.header.Kind.{Kind}
+use Rattle.message.specs.declared.header.Kind.the-variants.{Nop}
+use Rattle.message.specs.declared.answer.Status.{Status}
+use Rattle.message.specs.declared.answer.Status.the-variants.{Ok, Timeout, Error}
+use Rattle.message.specs.declared.answer.Seen.{Seen}
+use Rattle.message.specs.declared.answer.Look.{Look}
+use Rattle.message.specs.declared.answer.Look.the-variants.{Item, Bad}
+use Rattle.message.specs.declared.refusal.Refusal.{Refusal}
+use Rattle.message.specs.Header.{kindOf, byte0From, replyWords}
+use Rattle.message.specs.Walk.{refusal}
+use Rattle.message.specs.Request.{Reading, Wrong, Means, before, lengthOk}
+use Rattle.message.specs.Answer.{Answered, answerByte, wanted, judge, lookAt, lookTurn, answersFrom}
+use Rattle.message.proofs.Laws.Headers.{kind-back}
+use Rattle.message.proofs.Laws.Judged.{other-byte}
+use Rattle.message.proofs.Laws.Looking.{judge-long, judge-whole, looked, Found, found}
+use Rattle.initiator.specs.declared.sender.Moved.{Moved}
+use Rattle.initiator.specs.Sender.{discoveryByte, discoveryCommand, discoveryRequest, wordOk, spoiled, startedBy, startedFrom, startOf}
+
+-- a word that is let by is below 32
+pub word-lt : (w : ℕ) → wordOk w ≡ true → w < 32
+unfolding wordOk
+word-lt w e = go (ltb w 16) refl e
+  where
+    go : (b : Bool) → ltb w 16 ≡ b → cond b (eqb w 0) (ltb w 32) ≡ true → w < 32
+    go true z x = let l = ltb-true w 16 z in omega arith
+    go false z x = ltb-true w 32 x
+
+module _ (answer : List ℕ) where
+  -- 32
+  pub start-long : lengthOk (length answer) ≡ false → spoiled (refusal 32) ≡ startOf answer
+  unfolding startOf
+  start-long e = rw (judge-long discoveryRequest answer e)
+
+  module _ (byte0 : ℕ) (is : byte0 ≡ discoveryByte) (long : lengthOk (length answer) ≡ true) where
+    -- 33
+    pub start-byte : (getD answer 0 0 ≡ answerByte byte0 → ⊥) → spoiled (refusal 33) ≡ startOf answer
+    unfolding startOf
+    start-byte e = rw (other-byte discoveryRequest answer long (λ q. e (q ∙ ap answerByte (sym is))))
+
+    module _ (first : getD answer 0 0 ≡ answerByte byte0) where
+      abbrev ws : List ℕ
+      ws = wordsOf answer
+
+      -- the one header is looked at
+      looks : startOf answer ≡ startedFrom (lookTurn (lookAt byte0 2 true ws 0) (drop (0 + 1) ws) (λ n. answersFrom discoveryByte [] (drop (0 + 1 + n) ws)))
+      unfolding startOf
+      looks = rw (judge-whole discoveryRequest answer long (first ∙ ap answerByte is), is, looked discoveryByte discoveryCommand [] ws 0)
+
+      pub start-bad : (r : Refusal) → lookAt byte0 2 true ws 0 ≡ Bad r → spoiled r ≡ startOf answer
+      start-bad r e = rw (looks, e)
+
+      module _ (s : Seen) (e : lookAt byte0 2 true ws 0 ≡ Item s) where
+        pub start-found : Found byte0 2 true ws 0 s
+        start-found = found byte0 2 true ws 0 s e
+
+        last-is : s .last ≡ true
+        last-is = go (s .last) refl
+          where
+            go : (b : Bool) → s .last ≡ b → b ≡ true
+            go true z = refl
+            go false z = absurd (false≢true (sym (start-found .more z)))
+
+        start-item : startedBy (s .status) (getD (take (s .count) (drop (0 + 1) ws)) 1 0) ≡ startOf answer
+        start-item = rw (looks, e, last-is)
+
+        -- by its status
+        pub start-as : (t : Status) → s .status ≡ t → startedBy t (getD (take (s .count) (drop (0 + 1) ws)) 1 0) ≡ startOf answer
+        start-as t o = ap (λ (x : Status). startedBy x (getD (take (s .count) (drop (0 + 1) ws)) 1 0)) (sym o) ∙ start-item
+
+        -- an OK answer has two words, and word 1 is the datagram's third
+        pub start-two : s .status ≡ Ok → s .count ≡ 2
+        unfolding discoveryByte
+        start-two o =
+            let k : kindOf byte0 ≡ Nop = ap kindOf is ∙ kind-back 0 Nop false true (omega arith) in
+            start-found .counted ∙ ap (wanted byte0 2) o ∙ ap (λ (x : Kind). replyWords x 2) k
+
+        pub start-word : s .status ≡ Ok → getD (take (s .count) (drop (0 + 1) ws)) 1 0 ≡ getD ws 2 0
+        start-word o = getD-take (s .count) (drop (0 + 1) ws) 1 0 (omega (arith, start-two o)) ∙ getD-drop (0 + 1) ws 1 0

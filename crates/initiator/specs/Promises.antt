@@ -1,0 +1,41 @@
+-- What is promised of the sender, in other words than its definitions. The proofs are in proofs/Laws/Promised.antt. Assumes nothing.
+use Prim.Native.Nat.{ℕ, _+_, _%_}
+use mathlib.Core.Path.{_≡_}
+use mathlib.Core.Bool.{false}
+use mathlib.Core.List.{List}
+use lib.ListN.{getD}
+use Rattle.message.specs.Header.{tagOf, discoveryOf}
+use Rattle.message.specs.Request.{Request, Reading, Means, read, Fits}
+use Rattle.message.specs.Answer.{Answered, encodeAnswer, FitsAnswer}
+use Rattle.initiator.specs.declared.sender.Sender.{Sender}
+use Rattle.initiator.specs.declared.sender.Moved.{Moved}
+use Rattle.initiator.specs.Outcome.{answerTo}
+use Rattle.initiator.specs.Sender.{sendFault, offerOf, takeOf}
+
+-- a refusal leaves the sender as it was
+abbrev pub KeepsRefused : Sender → Moved → Type 0
+KeepsRefused s moved = (moved .refusal .number ≡ 0 → ⊥) → moved .sender ≡ s
+
+-- what an accepted answer is and does
+pub record Accepted (s : Sender) (message answer : List ℕ) : Type 0 where
+  -- it moves the next tag by one modulo 16 and ends the waiting
+  pub next : takeOf s message answer .sender .next ≡ (s .next + 1) % 16
+  pub waits : takeOf s message answer .sender .waits ≡ false
+  -- it has the message's tag, and is no answer to a discovery
+  pub tag : tagOf (getD answer 0 0) ≡ tagOf (getD message 0 0)
+  pub plain : discoveryOf (getD answer 0 0) ≡ false
+  -- its outcome is the list that it encodes
+  pub request : Request
+  pub asked : read message ≡ Means request
+  pub fits : Fits request
+  pub items : List Answered
+  pub told : answerTo (read message) answer ≡ Means items
+  pub encoded : answer ≡ encodeAnswer request items
+  pub answers : FitsAnswer request items
+
+abbrev pub AcceptedIs : Sender → List ℕ → List ℕ → Type 0
+AcceptedIs s message answer = takeOf s message answer .refusal .number ≡ 0 → Accepted s message answer
+
+-- acceptance depends on request and answer alone: whichever sender the message waits at
+abbrev pub Alone : Sender → Sender → List ℕ → List ℕ → Type 0
+Alone s t message answer = sendFault s message ≡ 0 → sendFault t message ≡ 0 → takeOf s message answer .refusal ≡ takeOf t message answer .refusal

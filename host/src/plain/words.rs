@@ -1,0 +1,95 @@
+//! The refusals: document 01's numbers, and its words for each.
+
+use super::message::{BYTES, WORDS};
+use std::fmt;
+
+/// A refusal by its number in document 01.
+#[derive(Clone, Copy, Debug, PartialEq, Eq)]
+pub struct Refusal(pub u32);
+
+impl Refusal {
+    // Turned away by the controller.
+    pub const LENT: Refusal = Refusal(1);
+    pub const LENGTH: Refusal = Refusal(2);
+    pub const PAST_END: Refusal = Refusal(3);
+    pub const BYTE_0: Refusal = Refusal(4);
+    pub const KIND: Refusal = Refusal(5);
+    pub const RESERVED: Refusal = Refusal(6);
+    pub const COUNT: Refusal = Refusal(7);
+    pub const ENABLES: Refusal = Refusal(8);
+    pub const AFTER_LAST: Refusal = Refusal(9);
+    pub const LONG_ANSWER: Refusal = Refusal(10);
+    pub const OUT_OF_STEP: Refusal = Refusal(11);
+
+    // Building a message.
+    pub const BUILDING: Refusal = Refusal(21);
+    pub const CLOSING: Refusal = Refusal(22);
+    pub const ADDED_COUNT: Refusal = Refusal(23);
+    pub const ADDED_ENABLES: Refusal = Refusal(24);
+    pub const ADDED_ADDRESS: Refusal = Refusal(25);
+    pub const NO_ROOM: Refusal = Refusal(26);
+
+    // The sender.
+    pub const NONE_WAITS: Refusal = Refusal(30);
+    pub const REQUEST: Refusal = Refusal(31);
+    pub const ANSWER_LENGTH: Refusal = Refusal(32);
+    pub const ANSWER_BYTE_0: Refusal = Refusal(33);
+    pub const ANSWER_HEADER: Refusal = Refusal(34);
+    pub const ANSWER_END: Refusal = Refusal(35);
+    pub const ONE_WAITS: Refusal = Refusal(36);
+    pub const NEXT_TAG: Refusal = Refusal(37);
+    pub const DISCOVERY: Refusal = Refusal(38);
+}
+
+/// Document 01's sentence for each number; `{words}` and `{bytes}` stand for the limit.
+pub const TABLE: [(u32, &str); 26] = [
+    (1, "memory, stored answer or output has a forbidden length, or the record is not fresh and not (tag 0 to 15, length 1 to {words})"),
+    (2, "0 bytes, not a multiple of 4, or over {bytes}"),
+    (3, "a header or body runs past the end"),
+    (4, "byte 0 differs from the first header's"),
+    (5, "kind 3"),
+    (6, "reserved bits set"),
+    (7, "count not allowed"),
+    (8, "byte enables not allowed"),
+    (9, "words follow the LAST command"),
+    (10, "the answer with all commands OK would pass {words} words"),
+    (11, "out of step (discovery clear)"),
+    (21, "short output, kind over 2, tag over 15 or a building record that no sequence of calls gives"),
+    (22, "adding after closing, closing twice or closing with nothing added"),
+    (23, "count"),
+    (24, "enables"),
+    (25, "address of 2^32 or more in 32-bit mode"),
+    (26, "request or all-OK answer would pass {words} words"),
+    (30, "sending or taking an answer while none waits"),
+    (31, "request would be refused 2 to 10, has the discovery bit, or its tag is not the next tag (that of the waiting message while one waits)"),
+    (32, "answer length 0, not a multiple of 4, or over {bytes}"),
+    (33, "byte 0 is not the request's with kind 3"),
+    (34, "later byte 0 differs, reserved or bits 15:12 set, status 3 or more, or count wrong (nonzero status: count 0)"),
+    (35, "a header or body past the end, LAST missing or early, or words after it"),
+    (36, "offering while one waits"),
+    (37, "sender record's next tag over 15"),
+    (38, "discovery status not OK, or word 1 has bits above 4 set, or bit 4 clear and a tag nonzero"),
+];
+
+/// The sentence for a number, with the limit in figures; none for a number that is no refusal.
+pub fn sentence(number: u32) -> Option<String> {
+    let (_, words) = TABLE.iter().find(|(given, _)| *given == number)?;
+    Some(words.replace("{words}", &figures(WORDS)).replace("{bytes}", &figures(BYTES)))
+}
+
+/// A number as document 01 writes it: thousands set apart by a comma.
+fn figures(number: usize) -> String {
+    match number {
+        0..=999 => number.to_string(),
+        _ => format!("{},{:03}", figures(number / 1000), number % 1000),
+    }
+}
+
+impl fmt::Display for Refusal {
+    fn fmt(&self, f: &mut fmt::Formatter) -> fmt::Result {
+        let words = sentence(self.0).unwrap_or_else(|| "no refusal of document 01".into());
+        write!(f, "refused {}: {}", self.0, words)
+    }
+}
+
+impl std::error::Error for Refusal {}

@@ -1,0 +1,191 @@
+//! Times controllers alike: the same datagrams, the same buffers at the same addresses, filled
+//! the same way before each round, rounds of the two interleaved, the median of each taken.
+
+use crate::plain;
+use crate::plain::message::{Header, WORDS};
+use std::hint::black_box;
+use std::time::Instant;
+
+/// A controller as the harness calls it.
+pub trait Controller {
+    const NAME: &'static str;
+    type Record;
+
+    fn fresh() -> Self::Record;
+
+    /// Gives the refusal's number and the length sent.
+    fn serve(
+        memory: &mut [u32],
+        stored: &mut [u32],
+        output: &mut [u8],
+        tags: &mut Self::Record,
+        datagram: &[u8],
+    ) -> (u32, usize);
+}
+
+/// The ordinary controller of `plain`.
+pub struct Plain;
+
+impl Controller for Plain {
+    const NAME: &'static str = "plain";
+    type Record = plain::TagRecord;
+
+    fn fresh() -> plain::TagRecord {
+        plain::TagRecord::fresh()
+    }
+
+    #[inline(always)]
+    fn serve(
+        memory: &mut [u32],
+        stored: &mut [u32],
+        output: &mut [u8],
+        tags: &mut plain::TagRecord,
+        datagram: &[u8],
+    ) -> (u32, usize) {
+        let served = plain::serve(memory, stored, output, tags, datagram);
+        (served.refusal, served.sent)
+    }
+}
+
+/// What is timed: these datagrams, over and over, from a fresh record.
+pub struct Case {
+    pub name: String,
+    pub datagrams: Vec<Vec<u8>>,
+}
+
+/// Words of memory that the timed controllers serve.
+const MEMORY: usize = 1024;
+
+/// All cases of the measurement.
+pub fn cases() -> Vec<Case> {
+    let many = WORDS / 3;
+    let reads = format!("read of {} words", WORDS - 1);
+    let mut repeat = tags(&format!("repeat of a {reads}"), |tag| read(tag, WORDS - 1));
+    repeat.datagrams.truncate(1);
+    vec![
+        tags("write of 1 word", |tag| writes(tag, 1, 1, 0xF, 0)),
+        tags(&format!("{many} writes of 1 word"), |tag| writes(tag, many, 1, 0xF, 0)),
+        tags(&format!("write of {} words", WORDS - 2), |tag| writes(tag, 1, WORDS - 2, 0xF, 0xF)),
+        tags("read of 1 word", |tag| read(tag, 1)),
+        tags(&reads, |tag| read(tag, WORDS - 1)),
+        repeat,
+        tags("write of 1 word, 2 bytes enabled", |tag| writes(tag, 1, 1, 0x6, 0)),
+        tags("write of 2 words, 3 bytes enabled", |tag| writes(tag, 1, 2, 0xC, 0x1)),
+        tags("discovery (a NOP of 2 words)", |_| plain::sender::DISCOVERY.to_vec()),
+    ]
+}
+
+/// A case of sixteen datagrams, one for each tag, so that each is new after the one before.
+fn tags(name: &str, datagram: impl Fn(u32) -> Vec<u8>) -> Case {
+    Case { name: name.into(), datagrams: (0..16).map(datagram).collect() }
+}
+
+/// A message of some writes alike, each to a place of its own.
+fn writes(tag: u32, commands: usize, count: usize, first: u32, last: u32) -> Vec<u8> {
+    let mut words = Vec::new();
+    for command in 0..commands {
+        let ends = if command + 1 == commands { Header::LAST } else { 0 };
+        words.push(Header::new(tag | 1 << 4, first | last << 4, count).0 | ends);
+        words.push(4 * (tag + (7 * command % (MEMORY / 2)) as u32));
+        words.extend((0..count as u32).map(|word| 0x0101_0101 * (tag + word)));
+    }
+    bytes(&words)
+}
+
+fn read(tag: u32, count: usize) -> Vec<u8> {
+    bytes(&[Header::new(tag | 2 << 4, 0, count).0 | Header::LAST, 4 * tag])
+}
+
+fn bytes(words: &[u32]) -> Vec<u8> {
+    words.iter().flat_map(|word| word.to_le_bytes()).collect()
+}
+
+/// The buffers, one set for both controllers.
+struct Buffers {
+    memory: Vec<u32>,
+    stored: Vec<u32>,
+    output: Vec<u8>,
+}
+
+impl Buffers {
+    fn new() -> Buffers {
+        let memory = vec![0; MEMORY.max(WORDS + 16)];
+        Buffers { memory, stored: vec![0; WORDS], output: vec![0; 4 * WORDS] }
+    }
+
+    fn refill(&mut self) {
+        for (place, word) in self.memory.iter_mut().enumerate() {
+            *word = 0x9E37_79B9_u32.wrapping_mul(place as u32);
+        }
+        self.stored.fill(0);
+        self.output.fill(0);
+    }
+
+    /// What a round has left behind, for comparison.
+    fn contents(&self) -> (Vec<u32>, Vec<u32>, Vec<u8>) {
+        (self.memory.clone(), self.stored.clone(), self.output.clone())
+    }
+}
+
+/// Two medians, in nanoseconds a message.
+pub struct Times {
+    pub ours: f64,
+    pub plain: f64,
+}
+
+/// Times a controller beside the plain one, which goes first in every other round.
+pub fn compare<C: Controller>(case: &Case, rounds: usize, messages: usize) -> Times {
+    let mut buffers = Buffers::new();
+    let (mut ours, mut plain) = (Vec::new(), Vec::new());
+    for number in 0..rounds {
+        if number % 2 == 0 {
+            plain.push(round::<Plain>(case, &mut buffers, messages));
+            let left = buffers.contents();
+            ours.push(round::<C>(case, &mut buffers, messages));
+            assert!(left == buffers.contents(), "{}: the two do not do the same", case.name);
+        } else {
+            ours.push(round::<C>(case, &mut buffers, messages));
+            plain.push(round::<Plain>(case, &mut buffers, messages));
+        }
+    }
+    Times { ours: median(ours), plain: median(plain) }
+}
+
+/// One round; gives nanoseconds a message.
+fn round<C: Controller>(case: &Case, buffers: &mut Buffers, messages: usize) -> f64 {
+    buffers.refill();
+    let mut tags = C::fresh();
+    let passes = messages.div_ceil(case.datagrams.len());
+    let mut refused = play::<C>(case, buffers, &mut tags, passes.min(4));
+    let start = Instant::now();
+    refused |= play::<C>(case, buffers, &mut tags, passes);
+    let spent = start.elapsed();
+    assert!(refused == 0, "{}: {} refused {}", case.name, C::NAME, refused);
+    spent.as_nanos() as f64 / (passes * case.datagrams.len()) as f64
+}
+
+/// Serves the datagrams so many times over; 0 if none was refused.
+#[inline(never)]
+fn play<C: Controller>(
+    case: &Case,
+    buffers: &mut Buffers,
+    tags: &mut C::Record,
+    passes: usize,
+) -> u32 {
+    let mut refused = 0;
+    for _ in 0..passes {
+        for datagram in &case.datagrams {
+            let datagram = black_box(datagram.as_slice());
+            let Buffers { memory, stored, output } = &mut *buffers;
+            let (refusal, sent) = C::serve(memory, stored, output, tags, datagram);
+            black_box((sent, &output[..]));
+            refused |= refusal;
+        }
+    }
+    refused
+}
+
+fn median(mut times: Vec<f64>) -> f64 {
+    times.sort_by(f64::total_cmp);
+    times[times.len() / 2]
+}

@@ -1,0 +1,121 @@
+//! The bench sheet of document 01, line by line.
+
+mod common;
+
+use charkhavo_host::plain::message::WORDS;
+use charkhavo_host::plain::TagRecord;
+use common::Bench;
+
+const A: [u32; 3] = [0x8001_0F10, 0x0000_0004, 0xFEED_C0DE];
+
+fn after_a() -> Bench {
+    let mut bench = Bench::sheet();
+    assert_eq!(bench.give(&A), Ok(vec![0x8000_0030]));
+    bench
+}
+
+fn after_b() -> Bench {
+    let mut bench = after_a();
+    assert_eq!(bench.give(&[0x8001_0F90, 0x0000_0004, 0]), Ok(vec![0x8000_00B0]));
+    assert_eq!(bench.give(&A), Ok(vec![0x8000_0030]));
+    bench
+}
+
+#[test]
+fn a_discovery_asks_for_one_word() {
+    let mut bench = Bench::sheet();
+    let limit = 4 * WORDS as u32;
+    assert_eq!(bench.give(&[0x8001_0080, 0x0000_0004]), Ok(vec![0x8001_00B0, limit]));
+    assert_eq!(bench, Bench { output: bench.output.clone(), ..Bench::sheet() });
+}
+
+#[test]
+fn a_discovery_reads() {
+    let sent = Bench::sheet().give(&[0x8001_00A0, 0x0000_0010]);
+    assert_eq!(sent, Ok(vec![0x8001_00B0, 0xF00D_FACE]));
+}
+
+#[test]
+fn a_discovery_writes_and_leaves_the_record_fresh() {
+    let mut bench = Bench::sheet();
+    assert_eq!(bench.give(&[0x8001_0F90, 0x0000_0004, 0xFEED_C0DE]), Ok(vec![0x8000_00B0]));
+    assert_eq!(bench.memory, [0, 0xFEED_C0DE, 0, 0, 0xF00D_FACE, 0, 0, 0]);
+    assert_eq!(bench.tags, TagRecord::fresh());
+}
+
+#[test]
+fn a_is_carried_out() {
+    let bench = after_a();
+    assert_eq!(bench.memory, [0, 0xFEED_C0DE, 0, 0, 0xF00D_FACE, 0, 0, 0]);
+    assert_eq!(bench.tags, TagRecord { fresh: false, tag: 0, words: 1 });
+}
+
+#[test]
+fn b_repeats_without_writing() {
+    let bench = after_b();
+    assert_eq!(bench.memory[1], 0);
+    assert_eq!(bench.tags, TagRecord { fresh: false, tag: 0, words: 1 });
+}
+
+#[test]
+fn c_writes_one_byte() {
+    let mut bench = after_b();
+    assert_eq!(bench.give(&[0x8001_0411, 0x0000_0004, 0xAABB_CCDD]), Ok(vec![0x8000_0031]));
+    assert_eq!(bench.memory, [0, 0x00BB_0000, 0, 0, 0xF00D_FACE, 0, 0, 0]);
+    assert_eq!(bench.tags.tag, 1);
+}
+
+#[test]
+fn d_is_out_of_step() {
+    assert_eq!(after_a().give(&[0x8001_0F12, 0x0000_0004, 0]), Err(11));
+}
+
+#[test]
+fn after_tag_15_comes_tag_0() {
+    let mut bench = Bench::with_tag(15);
+    assert_eq!(bench.give(&A), Ok(vec![0x8000_0030]));
+    assert_eq!(bench.memory[1], 0xFEED_C0DE);
+    assert_eq!(bench.tags, TagRecord { fresh: false, tag: 0, words: 1 });
+}
+
+#[test]
+fn a_read_past_the_end_fails() {
+    let mut bench = Bench::sheet();
+    assert_eq!(bench.give(&[0x8002_0020, 0x0000_001C]), Ok(vec![0x8000_0230]));
+    assert_eq!(bench.tags, TagRecord { fresh: false, tag: 0, words: 1 });
+}
+
+#[test]
+fn earlier_commands_stand() {
+    let mut bench = Bench::sheet();
+    let two = [0x0001_0F10, 0, 0x1111_1111, 0x8001_0F10, 0x0000_0020, 0x2222_2222];
+    assert_eq!(bench.give(&two), Ok(vec![0x0000_0030, 0x8000_0230]));
+    assert_eq!(bench.memory, [0x1111_1111, 0, 0, 0, 0xF00D_FACE, 0, 0, 0]);
+}
+
+#[test]
+fn a_high_address_word_counts() {
+    let mut bench = Bench::sheet();
+    assert_eq!(bench.give(&[0x8001_0F50, 4, 1, 0]), Ok(vec![0x8000_0270]));
+    assert_eq!(bench.memory, Bench::sheet().memory);
+}
+
+#[test]
+fn short_datagrams_counts_and_reserved_bits() {
+    let mut bench = Bench::sheet();
+    assert_eq!(bench.give_bytes(&[]), Err(2));
+    assert_eq!(bench.give_bytes(&[0x10, 0x0F, 0x01]), Err(2));
+    assert_eq!(bench.give(&[0x8000_0F10, 4]), Err(7));
+    assert_eq!(bench.give(&[0x9001_0F10, 4, 0]), Err(6));
+}
+
+#[test]
+fn the_longest_read_and_one_more() {
+    let read = |count: usize| [0x8000_0020 | (count as u32) << 16, 0];
+    assert_eq!(Bench::sheet().give(&read(WORDS - 1)), Ok(vec![0x8000_0230]));
+    assert_eq!(Bench::sheet().give(&read(WORDS)), Err(10));
+    if WORDS == 368 {
+        assert_eq!(read(WORDS - 1), [0x816F_0020, 0]);
+        assert_eq!(read(WORDS), [0x8170_0020, 0]);
+    }
+}

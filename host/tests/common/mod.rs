@@ -1,0 +1,73 @@
+//! What the tests share: words and bytes, and a bench controller that checks, at each call,
+//! what document 01 says of everything lent.
+
+#![allow(dead_code)]
+
+pub mod naive;
+pub mod naive_building;
+
+use charkhavo_host::plain::message::{BYTES, WORDS};
+use charkhavo_host::plain::{serve, Served, TagRecord};
+pub use charkhavo_host::random::bytes_of;
+
+pub fn words_of(bytes: &[u8]) -> Vec<u32> {
+    bytes.as_chunks().0.iter().map(|word| u32::from_le_bytes(*word)).collect()
+}
+
+/// A controller with its buffers.
+#[derive(Clone, Debug, PartialEq, Eq)]
+pub struct Bench {
+    pub memory: Vec<u32>,
+    pub stored: Vec<u32>,
+    pub output: Vec<u8>,
+    pub tags: TagRecord,
+}
+
+impl Bench {
+    pub fn new(memory: Vec<u32>) -> Bench {
+        Bench {
+            memory,
+            stored: vec![0x5757_5757; WORDS + 3],
+            output: vec![0xEE; BYTES + 5],
+            tags: TagRecord::fresh(),
+        }
+    }
+
+    /// The bench sheet's memory: 8 zero words but word 4.
+    pub fn sheet() -> Bench {
+        Bench::new(vec![0, 0, 0, 0, 0xF00D_FACE, 0, 0, 0])
+    }
+
+    pub fn with_tag(tag: u32) -> Bench {
+        Bench { tags: TagRecord { fresh: false, tag, words: 1 }, ..Bench::sheet() }
+    }
+
+    /// Serves a datagram: the words sent, or the refusal's number.
+    pub fn give(&mut self, words: &[u32]) -> Result<Vec<u32>, u32> {
+        self.give_bytes(&bytes_of(words))
+    }
+
+    pub fn give_bytes(&mut self, datagram: &[u8]) -> Result<Vec<u32>, u32> {
+        let before = self.clone();
+        let Bench { memory, stored, output, tags } = self;
+        let Served { refusal, sent } = serve(memory, stored, output, tags, datagram);
+        if refusal != 0 {
+            assert_eq!(sent, 0);
+            assert_eq!(*self, before, "a refusal changes nothing");
+            return Err(refusal);
+        }
+        self.check_kept(&before, sent);
+        Ok(words_of(&self.output[..sent]))
+    }
+
+    /// What lies past the answer keeps what it held; an unchanged record, the stored answer.
+    fn check_kept(&self, before: &Bench, sent: usize) {
+        assert!(sent.is_multiple_of(4) && (4..=BYTES).contains(&sent));
+        assert_eq!(self.output[sent..], before.output[sent..]);
+        let changed = if self.tags == before.tags { 0 } else { self.tags.words };
+        assert_eq!(self.stored[changed..], before.stored[changed..]);
+        if self.tags != before.tags {
+            assert_eq!(bytes_of(&self.stored[..changed]), self.output[..sent]);
+        }
+    }
+}

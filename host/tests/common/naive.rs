@@ -1,0 +1,264 @@
+//! Document 01 once more, slowly: lists and numbers, one sentence after the other, sharing
+//! nothing with the implementation but the limit and the records that go in and out.
+
+use charkhavo_host::plain::message::WORDS;
+use charkhavo_host::plain::{Sender, TagRecord};
+use charkhavo_host::random::controller::Lent;
+
+pub struct Command {
+    pub byte1: u32,
+    pub count: usize,
+    pub address: u64,
+    pub data: Vec<u32>,
+}
+
+pub struct Request {
+    pub byte0: u32,
+    pub commands: Vec<Command>,
+}
+
+fn bits(word: u32, high: u32, low: u32) -> u32 {
+    ((u64::from(word) >> low) % (1 << (high - low + 1))) as u32
+}
+
+fn words_in(bytes: &[u8]) -> Vec<u32> {
+    let word = |at: usize| (0..4).map(|i| u32::from(bytes[4 * at + i]) << (8 * i)).sum();
+    (0..bytes.len() / 4).map(word).collect()
+}
+
+/// The walk: refusals 2 to 10.
+pub fn read(bytes: &[u8]) -> Result<Request, u32> {
+    if bytes.is_empty() || !bytes.len().is_multiple_of(4) || bytes.len() > 4 * WORDS {
+        return Err(2);
+    }
+    let words = words_in(bytes);
+    let byte0 = bits(words[0], 7, 0);
+    let commands = read_commands(byte0, &words)?;
+    let answer: usize = commands.iter().map(|command| 1 + ok_count(byte0, command)).sum();
+    if answer > WORDS {
+        Err(10)
+    } else {
+        Ok(Request { byte0, commands })
+    }
+}
+
+fn ok_count(byte0: u32, command: &Command) -> usize {
+    if bits(byte0, 5, 4) == 1 {
+        0
+    } else {
+        command.count
+    }
+}
+
+fn read_commands(byte0: u32, words: &[u32]) -> Result<Vec<Command>, u32> {
+    let Some(header) = words.first().copied() else { return Err(3) };
+    let (kind, count) = (bits(header, 5, 4), bits(header, 27, 16) as usize);
+    let (first, last) = (bits(header, 11, 8), bits(header, 15, 12));
+    if bits(header, 7, 0) != byte0 {
+        return Err(4);
+    }
+    if kind == 3 {
+        return Err(5);
+    }
+    if bits(header, 30, 28) != 0 {
+        return Err(6);
+    }
+    if (kind == 0 && count > 2) || (kind != 0 && count == 0) {
+        return Err(7);
+    }
+    if kind == 1 && ((count == 1 && last != 0) || (count >= 2 && (first == 0 || last == 0))) {
+        return Err(8);
+    }
+    let address = if kind == 0 { 0 } else { 1 + bits(header, 6, 6) as usize };
+    let data = if kind == 2 { 0 } else { count };
+    if words.len() < 1 + address + data {
+        return Err(3);
+    }
+    let rest = &words[1 + address + data..];
+    let command = Command {
+        byte1: bits(header, 15, 8),
+        count,
+        address: (0..address).map(|i| u64::from(words[1 + i]) << (32 * i)).sum(),
+        data: words[1 + address..1 + address + data].to_vec(),
+    };
+    if bits(header, 31, 31) == 1 {
+        return if rest.is_empty() { Ok(vec![command]) } else { Err(9) };
+    }
+    let mut commands = read_commands(byte0, rest)?;
+    commands.insert(0, command);
+    Ok(commands)
+}
+
+/// Carries a request out upon memory; gives the answer's words.
+pub fn carried(request: &Request, memory: &mut [u32], tags: &TagRecord) -> Vec<u32> {
+    let mut bytes: Vec<u8> = memory.iter().flat_map(|word| word.to_le_bytes()).collect();
+    let mut answer = Vec::new();
+    let byte0 = request.byte0 | 0x30;
+    for (k, command) in request.commands.iter().enumerate() {
+        let data = carried_command(request.byte0, command, &mut bytes, tags);
+        let last = k + 1 == request.commands.len() || data.is_none();
+        let status = if data.is_none() { 2 } else { 0 };
+        let data = data.unwrap_or_default();
+        answer.push(byte0 + (status << 8) + ((data.len() as u32) << 16) + (u32::from(last) << 31));
+        answer.extend(data);
+        if status != 0 {
+            break;
+        }
+    }
+    memory.copy_from_slice(&words_in(&bytes));
+    answer
+}
+
+/// The data of the command's answer; none for an Error.
+fn carried_command(
+    byte0: u32,
+    command: &Command,
+    memory: &mut [u8],
+    tags: &TagRecord,
+) -> Option<Vec<u32>> {
+    if bits(byte0, 5, 4) == 0 {
+        let stored = if tags.fresh { 0 } else { tags.tag + 16 };
+        return Some([4 * WORDS as u32, stored][..command.count].to_vec());
+    }
+    let end = u128::from(command.address) + 4 * command.count as u128;
+    if !command.address.is_multiple_of(4) || end > memory.len() as u128 {
+        return None;
+    }
+    let range = &mut memory[command.address as usize..end as usize];
+    if bits(byte0, 5, 4) == 2 {
+        return Some(words_in(range));
+    }
+    for (place, byte) in range.iter_mut().enumerate() {
+        let word = place / 4;
+        let enables = match word {
+            0 => bits(command.byte1, 3, 0),
+            _ if word + 1 == command.count => bits(command.byte1, 7, 4),
+            _ => 15,
+        };
+        if enables >> (place % 4) & 1 == 1 {
+            *byte = (command.data[word] >> (8 * (place % 4))) as u8;
+        }
+    }
+    Some(Vec::new())
+}
+
+/// The controller's call: refusal and length sent, everything lent as it is then.
+pub fn serve(lent: &mut Lent) -> (u32, usize) {
+    let Lent { memory, stored, output, tags, datagram } = lent;
+    let lengths = !memory.is_empty()
+        && memory.len() <= 16_384
+        && stored.len() >= WORDS
+        && output.len() >= 4 * WORDS;
+    let record = tags.fresh || (tags.tag < 16 && tags.words > 0 && tags.words <= WORDS);
+    if !lengths || !record {
+        return (1, 0);
+    }
+    let request = match read(datagram) {
+        Ok(request) => request,
+        Err(refusal) => return (refusal, 0),
+    };
+    let (tag, discovery) = (bits(request.byte0, 3, 0), bits(request.byte0, 7, 7) == 1);
+    let repeat = !discovery && !tags.fresh && tag == tags.tag;
+    let new = !discovery && (tags.fresh || tag == (tags.tag + 1) % 16);
+    if !discovery && !repeat && !new {
+        return (11, 0);
+    }
+    let answer = match repeat {
+        true => stored[..tags.words].to_vec(),
+        false => carried(&request, memory, tags),
+    };
+    if new {
+        stored[..answer.len()].copy_from_slice(&answer);
+        *tags = TagRecord { fresh: false, tag, words: answer.len() };
+    }
+    let sent: Vec<u8> = answer.iter().flat_map(|word| word.to_le_bytes()).collect();
+    output[..sent.len()].copy_from_slice(&sent);
+    (0, sent.len())
+}
+
+/// Status and data place, in bytes, of each answered command: 32 to 35.
+pub fn judge(request: &Request, answer: &[u8]) -> Result<Vec<(u32, usize, usize)>, u32> {
+    if answer.is_empty() || !answer.len().is_multiple_of(4) || answer.len() > 4 * WORDS {
+        return Err(32);
+    }
+    let words = words_in(answer);
+    if bits(words[0], 7, 0) != request.byte0 | 0x30 {
+        return Err(33);
+    }
+    let (mut outcome, mut at) = (Vec::new(), 0);
+    for (k, command) in request.commands.iter().enumerate() {
+        let Some(header) = words.get(at).copied() else { return Err(35) };
+        let (status, count) = (bits(header, 11, 8), bits(header, 27, 16) as usize);
+        let right = if status == 0 { ok_count(request.byte0, command) } else { 0 };
+        if bits(header, 7, 0) != request.byte0 | 0x30
+            || bits(header, 30, 28) != 0
+            || bits(header, 15, 12) != 0
+            || status >= 3
+            || count != right
+        {
+            return Err(34);
+        }
+        outcome.push((status, 4 * (at + 1), 4 * (at + 1 + count)));
+        at += 1 + count;
+        let belongs = k + 1 == request.commands.len() || status != 0;
+        if at > words.len() || (bits(header, 31, 31) == 1) != belongs {
+            return Err(35);
+        }
+        if belongs {
+            return if at == words.len() { Ok(outcome) } else { Err(35) };
+        }
+    }
+    unreachable!("LAST belongs on the last command's header")
+}
+
+/// 31, with the tag clause if a tag is given.
+pub fn sendable(bytes: &[u8], tag: Option<u32>) -> Result<Request, u32> {
+    let request = read(bytes).map_err(|_| 31u32)?;
+    let tagged = tag.is_none_or(|tag| tag == bits(request.byte0, 3, 0));
+    if bits(request.byte0, 7, 7) == 1 || !tagged {
+        Err(31)
+    } else {
+        Ok(request)
+    }
+}
+
+pub fn offer(sender: Sender, request: &[u8]) -> Result<Sender, u32> {
+    if sender.next > 15 {
+        return Err(37);
+    }
+    if sender.waits {
+        return Err(36);
+    }
+    sendable(request, Some(sender.next))?;
+    Ok(Sender { next: sender.next, waits: true })
+}
+
+pub fn send(sender: Sender, request: &[u8]) -> Result<Request, u32> {
+    if sender.next > 15 {
+        return Err(37);
+    }
+    if !sender.waits {
+        return Err(30);
+    }
+    sendable(request, Some(sender.next))
+}
+
+pub fn take(sender: Sender, request: &[u8], answer: &[u8]) -> Result<Sender, u32> {
+    judge(&send(sender, request)?, answer)?;
+    Ok(Sender { next: (sender.next + 1) % 16, waits: false })
+}
+
+/// The next tag that an answer to the fixed discovery tells.
+pub fn discovered(answer: &[u8]) -> Result<u32, u32> {
+    let discovery = [0x8002_0080, 4 * WORDS as u32, 0];
+    let bytes: Vec<u8> = discovery.iter().flat_map(|word| word.to_le_bytes()).collect();
+    let outcome = judge(&read(&bytes)?, answer)?;
+    if outcome[0].0 != 0 {
+        return Err(38);
+    }
+    let word = words_in(answer)[2];
+    if bits(word, 31, 5) != 0 || (bits(word, 4, 4) == 0 && bits(word, 3, 0) != 0) {
+        return Err(38);
+    }
+    Ok(if bits(word, 4, 4) == 1 { (bits(word, 3, 0) + 1) % 16 } else { 0 })
+}
