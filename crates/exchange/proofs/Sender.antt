@@ -17,8 +17,9 @@ use Rattle.message.proofs.Laws.Going.{read-first}
 use Rattle.initiator.specs.declared.sender.Sender.{Sender}
 use Rattle.initiator.specs.declared.sender.Moved.{Moved}
 use Rattle.initiator.specs.Outcome.{answerTo}
-use Rattle.initiator.specs.Sender.{asksAs, offerFault, sendFault, offerOf, sendOf, takeOf}
+use Rattle.initiator.specs.Sender.{asksAs, offerFault, sendFault, offerOf, sendOf, takenBy, takeOf}
 use Rattle.initiator.proofs.Laws.Sending.{asks-wrong, asks-discovery, asks-tag}
+use Rattle.initiator.proofs.Laws.Promised.{take-judged}
 use Rattle.once.specs.Tags.{Waits, Still, Turned, Ended}
 use Rattle.exchange.specs.Outcomes.{Outcome, told}
 use Rattle.exchange.specs.Ends.{Loader, ends, offeredIn, handed, takenIn}
@@ -93,12 +94,10 @@ module _ (s : Sender) (m : List ℕ) where
 
   module _ (a : List ℕ) (e : sendFault s m ≡ 0) where
     take-fine : (items : List Answered) → answerTo (read m) a ≡ Means items → takeOf s m a ≡ record { refusal = refusal 0; sender = record { next = (s .next + 1) % 16; waits = false } }
-    unfolding takeOf
-    take-fine items g = rw (e, g)
+    take-fine items g = take-judged s m a e ∙ ap (takenBy s) g
 
     take-wrong : (r : Refusal) → answerTo (read m) a ≡ Wrong r → takeOf s m a ≡ record { refusal = r; sender = s }
-    unfolding takeOf
-    take-wrong r g = rw (e, g)
+    take-wrong r g = take-judged s m a e ∙ ap (takenBy s) g
 
 -- bytes that are some are handed back
 handed-some : (d : List ℕ) → 0 < length d → handed d ≡ some d
