@@ -22,11 +22,15 @@ use Rattle.exchange.specs.Outcomes.{Outcome, each, toldAt, told, results
 use Rattle.exchange.specs.Sight.{Plain, Encodes, Answers}
 use Rattle.exchange.proofs.AnswerBytes.{answer-tag, answer-finds}
 
+-- what a datagram asks is what it means
+pub means-asked : (d : List ℕ) (r : Request) → read d ≡ Means r → asked d ≡ r
+unfolding asked
+means-asked d r e = rw e
+
 -- a plain message asks for its request, which fits; its first byte is byte 0
 module _ {d : List ℕ} (p : Plain d) where
   pub asked-is : asked d ≡ p .request
-  unfolding asked
-  asked-is = rw (p .is)
+  asked-is = means-asked d (p .request) (p .is)
 
   pub plain-fits : Fits (p .request)
   plain-fits = written-read d (p .request) (p .bytes) (p .is) .0

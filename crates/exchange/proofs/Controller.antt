@@ -31,8 +31,8 @@ use Rattle.exchange.specs.Outcomes.{outcomeOver}
 use Rattle.exchange.specs.Ends.{Controller, ends, controllerIn, sentIn, serving}
 use Rattle.exchange.specs.Terms.{Lendable, findsOnly, Finds, terms, Sound}
 use Rattle.exchange.specs.Sight.{Plain, Encodes, Answers, Strange, storedBy, sight}
-use Rattle.exchange.proofs.Codec.{asked-is, asked-fits, first-is}
-use Rattle.exchange.proofs.Going.{mark-free, verdict-is, serving-is, rule-finds, means-asked, judged-is, items, words, encodes, short, some-words}
+use Rattle.exchange.proofs.Codec.{means-asked, asked-is, asked-fits, first-is}
+use Rattle.exchange.proofs.Going.{mark-free, verdict-is, serving-is, rule-finds, judged-is, items, words, encodes, short, some-words}
 
 -- a new message
 module _ (c : Controller) (b d : List ℕ) (h : Sound c) (l : Lendable b) (p : Plain d) (v : verdict (tagIn (storedBy c)) (tagOf (getD d 0 0)) ≡ new) where

@@ -16,7 +16,7 @@ use Rattle.message.specs.declared.answer.Status.the-variants.{Ok}
 use Rattle.message.specs.Limits.{limit, limitBytes}
 use Rattle.message.specs.Header.{tagOf, discoveryOf}
 use Rattle.message.specs.Walk.{refusal}
-use Rattle.message.specs.Request.{Command, Request, Means, read, Fits}
+use Rattle.message.specs.Request.{Command, Request, read, Fits}
 use Rattle.message.specs.Answer.{Answered}
 use Rattle.message.proofs.Laws.Answering.{encoded-is}
 use Rattle.message.proofs.Laws.Back.{right}
@@ -108,10 +108,6 @@ rule-is c byte0 z = rw z (go (c .tags .fresh))
 pub rule-finds : (tags : TagRecord) (byte0 : ℕ) → discoveryOf byte0 ≡ true → ruleOf tags byte0 ≡ Discovery
 unfolding ruleOf
 rule-finds tags byte0 e = rw e
-
-pub means-asked : (x : List ℕ) (r : Request) → read x ≡ Means r → asked x ≡ r
-unfolding asked
-means-asked x r e = rw e
 
 pub judged-is : (c : Controller) {d : List ℕ} (p : Plain d) (v : Tags.Verdict) → verdict (tagIn (storedBy c)) (tagOf (getD d 0 0)) ≡ v → judged (c .tags) (read d) ≡ ruled v
 judged-is c {d} p v e =
