@@ -1,20 +1,18 @@
 -- A fresh pair, and a sender made from a discovery's answer, are a start as `once` has it. Assumes nothing.
-use Prim.Native.Nat.{ℕ, _+_, _*_, _%_, _<_}
+use Prim.Native.Nat.{ℕ, _+_, _%_}
 use mathlib.Core.Path.{_≡_, refl, sym, ap, _∙_}
 use mathlib.Core.Bool.{Bool, true, false, cond}
 use mathlib.Core.Logic.{_⊎_, inl, inr}
-use mathlib.Core.Option.{Option, none, some, Option·some-injective}
+use mathlib.Core.Option.{none, some, Option·some-injective}
 use mathlib.Core.List.{List, [], _∷_}
 use native.Mathlib.Omega.{arith}
 use borrow.Author.Tests.{le-ltb, lt-ltb}
-use lib.Dec.{ltb, eqb}
 use lib.ListN.{take}
 use Rattle.word.specs.Words.{bytesOf}
 use Rattle.word.proofs.Runs.{words-front}
 use Rattle.message.specs.Limits.{limitBytes}
 use Rattle.completer.specs.declared.tags.TagRecord.{TagRecord}
-use Rattle.completer.specs.Tags.{markOf, recordOk}
-use Rattle.completer.specs.Serving.{After}
+use Rattle.completer.specs.Tags.{markOf}
 use Rattle.completer.proofs.Laws.Verdicts.{holds}
 use Rattle.completer.proofs.Laws.Discovered.{discovery-answered}
 use Rattle.initiator.specs.declared.sender.Sender.{Sender}
@@ -26,7 +24,7 @@ use Rattle.exchange.specs.Ends.{Controller, Loader, ends, sentIn, servin
 use Rattle.exchange.specs.Terms.{terms, Sound}
 use Rattle.exchange.specs.Sight.{storedBy, sight}
 use Rattle.exchange.specs.Promise.{FreshPair, Discovered, Begins}
-use Rattle.exchange.proofs.Controller.{lent-ok, kept-ok, mark-small}
+use Rattle.exchange.proofs.Going.{lent-ok, kept-ok, mark-small}
 use Rattle.exchange.proofs.Started.{same-discovery, started-at}
 
 -- the sender that is made where the record is this one

@@ -1,4 +1,4 @@
--- The premises of a night, decided by computation: `always-so`. Cited by Example.antt. Assumes nothing.
+-- The premises of a night, decided by computation: `always-so`. Cited by Example.antt and Sharp.antt. Assumes nothing.
 use Prim.Native.Nat.{ℕ, _+_}
 use mathlib.Core.Path.{_≡_, refl}
 use mathlib.Core.Bool.{Bool, true, false, cond, _&&_, false≢true}
@@ -7,7 +7,7 @@ use native.Mathlib.Omega.{arith}
 use borrow.Author.Tests.{ltb-true, leb-true, lt-ltb}
 use lib.Dec.{ltb, leb}
 use lib.ListN.{length}
-use Rattle.word.specs.Words.{Below, Bytes}
+use Rattle.word.specs.Words.{Below}
 use Rattle.message.specs.declared.header.Kind.{Kind}
 use Rattle.message.specs.declared.header.Kind.the-variants.{Nop, Write, Read, Response}
 use Rattle.message.specs.Limits.{limitBytes}
@@ -16,10 +16,9 @@ use Rattle.message.specs.Request.{Request, Reading, Wrong, Means, read}
 use Rattle.initiator.specs.Sender.{asksAs}
 use Rattle.once.specs.Runs.{Always}
 use Rattle.once.specs.World.{World, Event, offer, send, arrive, back, other, Origin, message, stranger, finished, sent, given, room, step}
-use Rattle.once.specs.Promise.{Timely, Allowed}
+use Rattle.once.specs.Promise.{Ages, Timely, Allowed}
 use Rattle.exchange.specs.Ends.{ends}
 use Rattle.exchange.specs.Terms.{findsOnly, terms}
-use Rattle.exchange.specs.Promise.{ages}
 
 both-true : (a b : Bool) → (a && b) ≡ true → (a ≡ true) × (b ≡ true)
 both-true true b e = (refl, e)
@@ -55,39 +54,40 @@ finds-so : (p : Reading Request) → finds? p ≡ true → findsOnly p
 finds-so (Wrong n) e = tt
 finds-so (Means r) e = let p = both-true (discoveryOf (r .byte0)) _ e in (p .0, changes-not (kindOf (r .byte0)) (p .1))
 
-abbrev timely? : World ends → Origin → Bool
-timely? w (message i) = cond (ltb (finished ends w) (length (w .offered))) (leb (length (w .offered)) (i + ages .answer)) true
-timely? w stranger = true
+module _ (A : Ages) where
+  abbrev timely? : World ends → Origin → Bool
+  timely? w (message i) = cond (ltb (finished ends w) (length (w .offered))) (leb (length (w .offered)) (i + A .answer)) true
+  timely? w stranger = true
 
-timely-so : (w : World ends) (o : Origin) → timely? w o ≡ true → Timely ends terms 1 ages w o
-timely-so w (message i) e = λ h. leb-true _ _ (rw (lt-ltb (finished ends w) (length (w .offered)) h) at e)
-timely-so w stranger e = tt
+  timely-so : (w : World ends) (o : Origin) → timely? w o ≡ true → Timely ends terms 1 A w o
+  timely-so w (message i) e = λ h. leb-true _ _ (rw (lt-ltb (finished ends w) (length (w .offered)) h) at e)
+  timely-so w stranger e = tt
 
-abbrev allowed? : World ends → Event ends → Bool
-allowed? w (offer d) = cond (room ends 1 w) (below? 256 d && asksAs (w .sender .sender .next) (read d)) true
-allowed? w (send p) = ltb p 1
-allowed? w (arrive j b) = ltb j (length (w .air)) && (leb (w .taken) ((sent ends w j) .0 + ages .request) && leb limitBytes (length b))
-allowed? w (back n) = ltb n (length (w .answers)) && timely? w ((given ends w n) .0)
-allowed? w (other x b) = below? 256 x && (finds? (read x) && leb limitBytes (length b))
+  abbrev allowed? : World ends → Event ends → Bool
+  allowed? w (offer d) = cond (room ends 1 w) (below? 256 d && asksAs (w .sender .sender .next) (read d)) true
+  allowed? w (send p) = ltb p 1
+  allowed? w (arrive j b) = ltb j (length (w .air)) && (leb (w .taken) ((sent ends w j) .0 + A .request) && leb limitBytes (length b))
+  allowed? w (back n) = ltb n (length (w .answers)) && timely? w ((given ends w n) .0)
+  allowed? w (other x b) = below? 256 x && (finds? (read x) && leb limitBytes (length b))
 
-allowed-so : (w : World ends) (e : Event ends) → allowed? w e ≡ true → Allowed ends terms 1 ages w e
-allowed-so w (offer d) e = λ h. let p = both-true (below? 256 d) _ (rw h at e) in record { bytes = below-so 256 d (p .0); asked = p .1 }
-allowed-so w (send p) e = ltb-true p 1 e
-allowed-so w (arrive j b) e =
-    let p = both-true (ltb j (length (w .air))) _ e in
-    let q = both-true (leb (w .taken) ((sent ends w j) .0 + ages .request)) _ (p .1) in
-    (ltb-true _ _ (p .0), leb-true _ _ (q .0), leb-true _ _ (q .1))
-allowed-so w (back n) e = let p = both-true (ltb n (length (w .answers))) _ e in (ltb-true _ _ (p .0), timely-so w ((given ends w n) .0) (p .1))
-allowed-so w (other x b) e =
-    let p = both-true (below? 256 x) _ e in
-    let q = both-true (finds? (read x)) _ (p .1) in
-    (record { bytes = below-so 256 x (p .0); only = finds-so (read x) (q .0) }, leb-true _ _ (q .1))
+  allowed-so : (w : World ends) (e : Event ends) → allowed? w e ≡ true → Allowed ends terms 1 A w e
+  allowed-so w (offer d) e = λ h. let p = both-true (below? 256 d) _ (rw h at e) in record { bytes = below-so 256 d (p .0); asked = p .1 }
+  allowed-so w (send p) e = ltb-true p 1 e
+  allowed-so w (arrive j b) e =
+      let p = both-true (ltb j (length (w .air))) _ e in
+      let q = both-true (leb (w .taken) ((sent ends w j) .0 + A .request)) _ (p .1) in
+      (ltb-true _ _ (p .0), leb-true _ _ (q .0), leb-true _ _ (q .1))
+  allowed-so w (back n) e = let p = both-true (ltb n (length (w .answers))) _ e in (ltb-true _ _ (p .0), timely-so w ((given ends w n) .0) (p .1))
+  allowed-so w (other x b) e =
+      let p = both-true (below? 256 x) _ e in
+      let q = both-true (finds? (read x)) _ (p .1) in
+      (record { bytes = below-so 256 x (p .0); only = finds-so (read x) (q .0) }, leb-true _ _ (q .1))
 
-abbrev pub always? : World ends → List (Event ends) → Bool
-always? w [] = true
-always? w (e ∷ es) = allowed? w e && always? (step ends 1 w e) es
+  abbrev pub always? : World ends → List (Event ends) → Bool
+  always? w [] = true
+  always? w (e ∷ es) = allowed? w e && always? (step ends 1 w e) es
 
--- A night that passes the test is allowed.
-pub always-so : (w : World ends) (es : List (Event ends)) → always? w es ≡ true → Always (step ends 1) (Allowed ends terms 1 ages) w es
-always-so w [] e = tt
-always-so w (x ∷ es) e = let p = both-true (allowed? w x) _ e in (allowed-so w x (p .0), always-so (step ends 1 w x) es (p .1))
+  -- A night that passes the test is allowed.
+  pub always-so : (w : World ends) (es : List (Event ends)) → always? w es ≡ true → Always (step ends 1) (Allowed ends terms 1 A) w es
+  always-so w [] e = tt
+  always-so w (x ∷ es) e = let p = both-true (allowed? w x) _ e in (allowed-so w x (p .0), always-so (step ends 1 w x) es (p .1))

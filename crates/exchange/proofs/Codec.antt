@@ -9,7 +9,7 @@ use lib.ListN.{length, getD}
 use Rattle.message.specs.declared.header.Kind.{Kind}
 use Rattle.message.specs.Header.{tagOf, kindOf, discoveryOf}
 use Rattle.message.specs.Walk.{refusal}
-use Rattle.message.specs.Request.{Request, Reading, Wrong, Means, read, lengthOk, Fits}
+use Rattle.message.specs.Request.{Request, Wrong, Means, read, lengthOk, Fits}
 use Rattle.message.specs.Answer.{Answered, answerByte, judge}
 use Rattle.message.proofs.Laws.Faults.{no-mean}
 use Rattle.message.proofs.Laws.Back.{written-read}
@@ -19,14 +19,18 @@ use Rattle.message.proofs.Laws.Looking.{judge-long}
 use Rattle.completer.specs.Carrying.{asked}
 use Rattle.initiator.specs.Outcome.{answerTo, endingAt, dataAt}
 use Rattle.exchange.specs.Outcomes.{Outcome, each, toldAt, told, resultsIn}
-use Rattle.exchange.specs.Sight.{Plain, Encodes, Answers, Strange}
+use Rattle.exchange.specs.Sight.{Plain, Encodes, Answers}
 use Rattle.exchange.proofs.AnswerBytes.{answer-tag, answer-finds}
+
+-- what a datagram asks is what it means
+pub means-asked : (d : List ℕ) (r : Request) → read d ≡ Means r → asked d ≡ r
+unfolding asked
+means-asked d r e = rw e
 
 -- a plain message asks for its request, which fits; its first byte is byte 0
 module _ {d : List ℕ} (p : Plain d) where
   pub asked-is : asked d ≡ p .request
-  unfolding asked
-  asked-is = rw (p .is)
+  asked-is = means-asked d (p .request) (p .is)
 
   pub plain-fits : Fits (p .request)
   plain-fits = written-read d (p .request) (p .bytes) (p .is) .0

@@ -1,10 +1,7 @@
 -- The night of specs/Example.antt: its premises and its end, computed. Assumes nothing.
-use Prim.Native.Nat.{ℕ}
-use mathlib.Core.Path.{_≡_, refl}
-use mathlib.Core.Bool.{true}
+use mathlib.Core.Path.{refl}
 use mathlib.Core.Logic.{inl, inr}
-use mathlib.Core.List.{List, [], _∷_}
-use native.Mathlib.Omega.{arith}
+use mathlib.Core.List.{[], _∷_}
 use borrow.Author.Tests.{leb-true}
 use lib.ListN.{replicate}
 use Rattle.word.specs.Words.{wordsOf, bytesOf, put, putWords}
@@ -25,9 +22,9 @@ use Rattle.initiator.specs.Sender.{asksAs, offerFault, sendFault, offerOf, send
 use Rattle.once.specs.World.{start}
 use Rattle.exchange.specs.Outcomes.{each, told}
 use Rattle.exchange.specs.Ends.{Controller, ends}
-use Rattle.exchange.specs.Promise.{Begins, Night, morning}
-use Rattle.exchange.specs.Example.{controller, loader, output, night, Given, Played, anew, Anew}
-use Rattle.exchange.proofs.Checked.{below-so, always?, always-so}
+use Rattle.exchange.specs.Promise.{Begins, ages, morning}
+use Rattle.exchange.specs.Example.{controller, loader, output, night, Played}
+use Rattle.exchange.proofs.Checked.{below-so, always-so}
 
 begun : Begins controller loader
 unfolding recordOk
@@ -44,39 +41,40 @@ begun =
       pair = inl (record { tags = refl; sender = refl });
     }
 
-passes : always? (start ends controller loader) night ≡ true
-unfolding wordsOf bytesOf put putWords byteOf bitOf ofBytes merged kindNo byte0From headerFrom headOf patternOk faultOf stepOn addressFrom commandOf commandsFrom replies ended lengthOk read statusNo answerByte answerFault seenOf lookOn answersFrom judge answeredWords answerWords outside fetches storesBehind stores moves afterMoves memoryAfter answerOf answers answerTo wordsTo asked repeats expected markOf lentOk heldOk recordOk keptOk ruleOf verdictOf answerBy after discoveryBytes judgedBy endingAt dataAt asksAs offerFault sendFault offerOf sendOf takeOf each told
-passes = refl
-
-pub played : Played
-unfolding wordsOf bytesOf put putWords byteOf bitOf ofBytes merged kindNo byte0From headerFrom headOf patternOk faultOf stepOn addressFrom commandOf commandsFrom replies ended lengthOk read statusNo answerByte answerFault seenOf lookOn answersFrom judge answeredWords answerWords outside fetches storesBehind stores moves afterMoves memoryAfter answerOf answers answerTo wordsTo asked repeats expected markOf lentOk heldOk recordOk keptOk ruleOf verdictOf answerBy after discoveryBytes judgedBy endingAt dataAt asksAs offerFault sendFault offerOf sendOf takeOf each told
-played = record { begins = begun; allowed = always-so (start ends controller loader) night passes; given = refl; memory = refl; outcomes = refl; sender = refl }
-
 -- the same record over another memory and another stored answer
 abbrev before : Controller
 before = record { memory = 7 ∷ []; stored = replicate limit 9; tags = morning controller loader night .controller .tags }
 
-pub made-anew : Anew
+pub played : Played
 unfolding wordsOf bytesOf put putWords byteOf bitOf ofBytes merged kindNo byte0From headerFrom headOf patternOk faultOf stepOn addressFrom commandOf commandsFrom replies ended lengthOk read statusNo answerByte answerFault seenOf lookOn answersFrom judge answeredWords answerWords outside fetches storesBehind stores moves afterMoves memoryAfter answerOf answers answerTo wordsTo asked repeats expected markOf lentOk heldOk recordOk keptOk ruleOf verdictOf answerBy after discoveryBytes judgedBy endingAt dataAt asksAs offerFault sendFault offerOf sendOf takeOf each told
-made-anew =
+played =
     record {
-      sound =
+      begins = begun;
+      allowed = always-so ages (start ends controller loader) night refl;
+      given = refl;
+      memory = refl;
+      outcomes = refl;
+      sender = refl;
+      anew =
           record {
-            words = below-so 4294967296 (morning controller loader night .controller .memory) refl;
-            some = leb-true _ _ refl;
-            most = leb-true _ _ refl;
-            stored = leb-true _ _ refl;
-            tags = refl;
+            sound =
+                record {
+                  words = below-so 4294967296 (morning controller loader night .controller .memory) refl;
+                  some = leb-true _ _ refl;
+                  most = leb-true _ _ refl;
+                  stored = leb-true _ _ refl;
+                  tags = refl;
+                };
+            pair =
+                inr (record {
+                  earlier = before;
+                  sound = record { words = below-so 4294967296 (before .memory) refl; some = leb-true _ _ refl; most = leb-true _ _ refl; stored = leb-true _ _ refl; tags = refl };
+                  since = refl;
+                  lent = output;
+                  long = leb-true _ _ refl;
+                  answer = bytesOf (0x800200B0 ∷ 0x000005C0 ∷ 0x00000011 ∷ []);
+                  given = refl;
+                  sender = refl;
+                });
           };
-      pair =
-          inr (record {
-            earlier = before;
-            sound = record { words = below-so 4294967296 (before .memory) refl; some = leb-true _ _ refl; most = leb-true _ _ refl; stored = leb-true _ _ refl; tags = refl };
-            since = refl;
-            lent = output;
-            long = leb-true _ _ refl;
-            answer = bytesOf (0x800200B0 ∷ 0x000005C0 ∷ 0x00000011 ∷ []);
-            given = refl;
-            sender = refl;
-          });
     }

@@ -4,11 +4,12 @@ use mathlib.Core.Option.{none}
 use mathlib.Core.List.{List}
 use Prim.Native.Nat.{ℕ}
 use Rattle.once.specs.Tags.{Tagged, Carried, Kept, answerIn}
-use Rattle.exchange.specs.Ends.{Controller, ends}
+use Rattle.exchange.specs.Ends.{ends}
 use Rattle.exchange.specs.Terms.{terms}
 use Rattle.exchange.specs.Sight.{storedBy, waitingBy, sight}
 use Rattle.exchange.proofs.Sender.{offers-plain, offers-it, full-still, sends-it, idle-sends, ends-own, refuses-other, refuses-strange, idle-takes}
-use Rattle.exchange.proofs.Controller.{stored-small, does-new, does-again, does-late, does-quiet}
+use Rattle.exchange.proofs.Going.{stored-small}
+use Rattle.exchange.proofs.Controller.{does-new, does-again, does-late, does-quiet}
 
 pub tagged : Tagged ends terms sight
 tagged =

@@ -1,12 +1,15 @@
 -- What proves it: Promise has the theorems. Facts: the two ends meet what `once` asks, from the facts about the loader (Sender) and the
--- controller (Controller); Begins: the two starts. Codec: what crosses the channel.
+-- controller (Controller, by what its call goes by: Going). Begins and Started: the two starts. Codec and AnswerBytes: what crosses the
+-- channel. Example and Sharp compute, by the tests of Checked.
 pub mod Promise
+pub mod Facts
+pub mod Sender
+pub mod Controller
+pub mod Going
 pub mod Begins
 pub mod Started
-pub mod Facts
-pub mod Controller
-pub mod Sender
 pub mod Codec
 pub mod AnswerBytes
-pub mod Checked
 pub mod Example
+pub mod Sharp
+pub mod Checked

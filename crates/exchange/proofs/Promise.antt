@@ -1,5 +1,4 @@
 -- The theorems of specs/Promise.antt. Assumes nothing.
-use Prim.Native.Nat.{ℕ, suc, _≤_}
 use native.Mathlib.Omega.{arith}
 use Rattle.once.proofs.Promise.{finished-or-one-more}
 use Rattle.once.proofs.Tagged.{tagged-safety, tagged-progress, tagged-extends, tagged-says}

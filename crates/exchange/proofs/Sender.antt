@@ -2,7 +2,7 @@
 use Prim.Native.Nat.{ℕ, _+_, _%_, _<_}
 use mathlib.Core.Path.{_≡_, refl, sym, ap, subst, _∙_}
 use mathlib.Core.Bool.{Bool, true, false, cond, false≢true}
-use mathlib.Core.Option.{Option, none, some, Option·some-injective}
+use mathlib.Core.Option.{none, some, Option·some-injective}
 use mathlib.Core.List.{List, [], _∷_}
 use native.Mathlib.Omega.{arith}
 use borrow.Author.Tests.{eqb-true, lt-ltb, eq-eqb}
@@ -17,8 +17,9 @@ use Rattle.message.proofs.Laws.Going.{read-first}
 use Rattle.initiator.specs.declared.sender.Sender.{Sender}
 use Rattle.initiator.specs.declared.sender.Moved.{Moved}
 use Rattle.initiator.specs.Outcome.{answerTo}
-use Rattle.initiator.specs.Sender.{asksAs, offerFault, sendFault, offerOf, sendOf, takeOf}
+use Rattle.initiator.specs.Sender.{asksAs, offerFault, sendFault, offerOf, sendOf, takenBy, takeOf}
 use Rattle.initiator.proofs.Laws.Sending.{asks-wrong, asks-discovery, asks-tag}
+use Rattle.initiator.proofs.Laws.Promised.{take-judged}
 use Rattle.once.specs.Tags.{Waits, Still, Turned, Ended}
 use Rattle.exchange.specs.Outcomes.{Outcome, told}
 use Rattle.exchange.specs.Ends.{Loader, ends, offeredIn, handed, takenIn}
@@ -93,12 +94,10 @@ module _ (s : Sender) (m : List ℕ) where
 
   module _ (a : List ℕ) (e : sendFault s m ≡ 0) where
     take-fine : (items : List Answered) → answerTo (read m) a ≡ Means items → takeOf s m a ≡ record { refusal = refusal 0; sender = record { next = (s .next + 1) % 16; waits = false } }
-    unfolding takeOf
-    take-fine items g = rw (e, g)
+    take-fine items g = take-judged s m a e ∙ ap (takenBy s) g
 
     take-wrong : (r : Refusal) → answerTo (read m) a ≡ Wrong r → takeOf s m a ≡ record { refusal = r; sender = s }
-    unfolding takeOf
-    take-wrong r g = rw (e, g)
+    take-wrong r g = take-judged s m a e ∙ ap (takenBy s) g
 
 -- bytes that are some are handed back
 handed-some : (d : List ℕ) → 0 < length d → handed d ≡ some d
@@ -154,15 +153,14 @@ module _ {s : Loader} {d : List ℕ} (w : Waits ends terms sight s d) where
 
   pub refuses-other : {e : List ℕ} {o : Outcome} {a : List ℕ} → Plain e → Answers e o a → (tagOf (getD e 0 0) ≡ tagOf (getD d 0 0) → ⊥) → Turned ends terms sight s (ends .take s a)
   refuses-other {e} {o} {a} p h n =
-      let i : tagOf (asked-request p) ≡ tagOf (getD e 0 0) = ap tagOf (sym (first-is p)) in
-      refuses a (other-tag (w .plain) (p .request) (judged-headed (p .request) a (h .items) (rw (asked-is p) at (encodes-judged (asked-fits p) (h .encodes)))) (λ z. n (sym i ∙ z ∙ ap tagOf (sym (first-is (w .plain))))))
-    where
-      asked-request : {e : List ℕ} → Plain e → ℕ
-      asked-request p = p .request .byte0
+      let j = rw (asked-is p) at (encodes-judged (asked-fits p) (h .encodes)) in
+      let m : tagOf (p .request .byte0) ≡ tagOf (w .plain .request .byte0) → ⊥ = λ z. n (ap tagOf (first-is p) ∙ z ∙ ap tagOf (sym (first-is (w .plain)))) in
+      refuses a (other-tag (w .plain) (p .request) (judged-headed (p .request) a (h .items) j) m)
 
   pub refuses-strange : {a : List ℕ} → Strange a → Turned ends terms sight s (ends .take s a)
   refuses-strange {a} h =
-      refuses a (other-kind (w .plain) (h .request) (judged-headed (h .request) a (h .items) (encodes-judged (h .fits) (h .encodes))) (λ z. false≢true (sym (w .plain .clear) ∙ sym z ∙ h .finds)))
+      let j = encodes-judged (h .fits) (h .encodes) in
+      refuses a (other-kind (w .plain) (h .request) (judged-headed (h .request) a (h .items) j) (λ z. false≢true (sym (w .plain .clear) ∙ sym z ∙ h .finds)))
 
 -- nothing waits: nothing is sent, and no answer taken
 pub idle-sends : (s : Loader) → waitingBy s ≡ none → ends .send s 0 ≡ none

@@ -60,6 +60,13 @@ Given =
     ∷ (message 1, some (bytesOf (0x80020031 ∷ 0x00000000 ∷ 0xFEEDC0DE ∷ [])))
     ∷ []
 
+-- A sender made from the answer to a discovery that comes now: a start with this controller, whatever memory held then.
+abbrev pub anew : Loader
+anew = record { sender = startOf (bytesOf (0x800200B0 ∷ 0x000005C0 ∷ 0x00000011 ∷ [])) .sender; message = [] }
+
+abbrev pub Anew : Type 0
+Anew = Begins (morning controller loader night .controller) anew
+
 -- The premises, and the end.
 pub record Played : Type 0 where
   pub begins : Begins controller loader
@@ -69,10 +76,4 @@ pub record Played : Type 0 where
   pub outcomes : morning controller loader night .outcomes
       ≡ (record { ending = Ended Ok; words = [] } ∷ []) ∷ (record { ending = Ended Ok; words = 0 ∷ 0xFEEDC0DE ∷ [] } ∷ []) ∷ []
   pub sender : morning controller loader night .sender .sender ≡ record { next = 2; waits = false }
-
--- A sender made from the answer to a discovery that comes now: a start with this controller, whatever memory held then.
-abbrev pub anew : Loader
-anew = record { sender = startOf (bytesOf (0x800200B0 ∷ 0x000005C0 ∷ 0x00000011 ∷ [])) .sender; message = [] }
-
-abbrev pub Anew : Type 0
-Anew = Begins (morning controller loader night .controller) anew
+  pub anew : Anew

@@ -1,9 +1,10 @@
 -- What a reader has to believe, and nothing else: definitions only. Read them in this order.
 -- Promise: the theorems. Ends: the two ends and their calls. Terms: messages, memory and what is lent. Outcomes: what an outcome is.
--- Sight: what the facts behind the theorems look at.
-pub mod Outcomes
+-- Example: a closed night from bytes. Sharp: two that the premises keep out. Sight: what the facts behind the theorems look at.
+pub mod Promise
 pub mod Ends
 pub mod Terms
-pub mod Sight
-pub mod Promise
+pub mod Outcomes
 pub mod Example
+pub mod Sharp
+pub mod Sight

@@ -66,12 +66,12 @@ abbrev pub Memory : Type 0
 Memory = (c : Controller) (s : Loader) → Begins c s → (es : List (Event ends)) → Night c s es → FirstMessages (c .memory) (morning c s es)
 
 -- "Each finished outcome is from that carrying out.": statuses, and read data as memory's words at that moment (Outcomes).
-pub record Outcomes (m : List ℕ) (w : World ends) : Type 0 where
+pub record OutcomesOf (m : List ℕ) (w : World ends) : Type 0 where
   pub offered : finished ends w ≤ length (w .offered)
   pub are : w .outcomes ≡ results terms m (take (finished ends w) (w .offered))
 
 abbrev pub FinishedOutcomes : Type 0
-FinishedOutcomes = (c : Controller) (s : Loader) → Begins c s → (es : List (Event ends)) → Night c s es → Outcomes (c .memory) (morning c s es)
+FinishedOutcomes = (c : Controller) (s : Loader) → Begins c s → (es : List (Event ends)) → Night c s es → OutcomesOf (c .memory) (morning c s es)
 
 -- "If sending goes on and of any L sends in a row (L at least 1) one arrives and its answer is back before the next send, all are
 -- finished by send N times L.": for each number of messages, and from any moment on (`Progress` of once).
