@@ -48,10 +48,14 @@ fn chosen(bit: u32, new: u32, old: u32) -> u32
     if bit == 1 { new } else { old }
 }
 
-// The old word with the enabled bytes of the new one: bit i of enables covers byte i, and bits 4 and up cover none.
+// The old word with the enabled bytes of the new one: bit i of enables covers byte i, and bits 4 and up cover none. A whole word,
+// which most are, is asked for first: it waits for no byte of the old one.
 pub fn merge(old: u32, new: u32, enables: u32) -> u32
     ensures { λ r. ⌜ r ≡ merged old new enables ⌝ }
 {
+    if enables == 15 {
+        return new;
+    }
     chosen(enables % 2, new % 256, old % 256)
         + 256 * chosen(enables / 2 % 2, new / 256 % 256, old / 256 % 256)
         + 65536 * chosen(enables / 4 % 2, new / 65536 % 256, old / 65536 % 256)

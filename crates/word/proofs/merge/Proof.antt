@@ -1,9 +1,15 @@
--- `word::merge` meets its contract: four bytes, each chosen by its bit. Assumes nothing.
+-- `word::merge` meets its contract: the whole word, or four bytes, each chosen by its bit. Assumes nothing.
+use mathlib.Core.Path.{sym, ap, _∙_}
 use native.Mathlib.Omega.{arith}
-use Rattle.word.proofs.Places.{merged-is}
+use Rattle.word.specs.Enables.{merged}
+use Rattle.word.proofs.Places.{merged-is, merge-whole}
 use borrow.Author.Needs.{needs}
 use Rattle.word.proofs.merge.Statement.{statement}
 use Rattle.word.proofs.merge.Tie as tie
+
+returns : tie.Need-returns
+returns c =
+    let a = c .before .args in sym (ap (merged (a .old) (a .new)) (c .if1 .taken) ∙ merge-whole (a .old) (a .new) (omega arith))
 
 chosen-requires : tie.Need-chosen-requires
 chosen-requires c κs = search needs
@@ -35,13 +41,14 @@ mul-result-3 c = search needs
 add-result-3 : tie.Need-add-result-3
 add-result-3 c = search needs
 
-returns : tie.Need-returns
-returns c = let a = c .before .before .before .before .args in omega (arith, merged-is (a .old) (a .new) (a .enables))
+returns-2 : tie.Need-returns-2
+returns-2 c = let a = c .before .before .before .before .before .args in omega (arith, merged-is (a .old) (a .new) (a .enables))
 
 pub merge-spec : {M : Type 1} → statement M
 merge-spec =
     tie.close
     (tie.spec
+    returns
     chosen-requires
     chosen-requires-2
     mul-result
@@ -52,4 +59,4 @@ merge-spec =
     chosen-requires-4
     mul-result-3
     add-result-3
-    returns)
+    returns-2)
