@@ -1,6 +1,6 @@
 -- What crosses the channel: a plain message is read as it was written, its own answer is judged to say its outcome, and any other
 -- answer is 33. The facts of both ends cite these. Assumes nothing.
-use Prim.Native.Nat.{ℕ}
+use Prim.Native.Nat.{ℕ, zero, suc}
 use mathlib.Core.Path.{_≡_, refl, sym, ap, _∙_}
 use mathlib.Core.Bool.{Bool, true, false}
 use mathlib.Core.List.{List, [], _∷_}
@@ -16,9 +16,10 @@ use Rattle.message.proofs.Laws.Back.{written-read}
 use Rattle.message.proofs.Laws.Going.{read-first}
 use Rattle.message.proofs.Laws.Judged.{judge-encoded, other-byte}
 use Rattle.message.proofs.Laws.Looking.{judge-long}
+use Rattle.completer.specs.Answers.{failed}
 use Rattle.completer.specs.Carrying.{asked}
 use Rattle.initiator.specs.Outcome.{answerTo, endingAt, dataAt}
-use Rattle.exchange.specs.Outcomes.{Outcome, each, toldAt, told, resultsIn}
+use Rattle.exchange.specs.Outcomes.{Outcome, each, toldAt, told, resultOf, resultsIn}
 use Rattle.exchange.specs.Sight.{Plain, Encodes, Answers}
 use Rattle.exchange.proofs.AnswerBytes.{answer-tag, answer-finds}
 
@@ -81,6 +82,14 @@ module _ {d : List ℕ} (p : Plain d) (r : Request) {a : List ℕ} (h : Headed r
   -- of a discovery
   pub other-kind : (discoveryOf (r .byte0) ≡ discoveryOf (p .request .byte0) → ⊥) → answerTo (read d) a ≡ Wrong (refusal 33)
   other-kind n = unlike (λ e. n (sym (answer-finds (r .byte0)) ∙ ap discoveryOf e ∙ answer-finds (p .request .byte0)))
+
+-- the result of a command is that of its answer
+pub result-at : (kind : Kind) (items : List Answered) (k : ℕ) → getD (resultsIn kind items) k (resultOf kind failed) ≡ resultOf kind (getD items k failed)
+unfolding resultsIn
+result-at kind [] zero = refl
+result-at kind [] (suc k) = refl
+result-at kind (a ∷ more) zero = refl
+result-at kind (a ∷ more) (suc k) = result-at kind more k
 
 -- command by command, the outcome functions tell what the answers say
 each-told : (message : List ℕ) (items : List Answered) → each (length items) (toldAt message (Means items)) ≡ resultsIn (kindOf (getD message 0 0)) items

@@ -6,7 +6,7 @@ use borrow.Author.Tests.{leb-true}
 use lib.ListN.{replicate}
 use Rattle.word.specs.Words.{wordsOf, bytesOf, put, putWords}
 use Rattle.word.specs.Enables.{byteOf, bitOf, ofBytes, merged}
-use Rattle.message.specs.Limits.{limit}
+use Rattle.message.specs.Limits.{limit, limitBytes}
 use Rattle.message.specs.Header.{kindNo, byte0From, headerFrom, headOf}
 use Rattle.message.specs.Walk.{patternOk, faultOf, stepOn}
 use Rattle.message.specs.Request.{addressFrom, commandOf, commandsFrom, replies, ended, lengthOk, read}
@@ -72,7 +72,7 @@ played =
                   since = refl;
                   lent = output;
                   long = leb-true _ _ refl;
-                  answer = bytesOf (0x800200B0 ∷ 0x000005C0 ∷ 0x00000011 ∷ []);
+                  answer = bytesOf (0x800200B0 ∷ limitBytes ∷ 0x00000011 ∷ []);
                   given = refl;
                   sender = refl;
                 });

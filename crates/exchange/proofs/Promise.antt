@@ -1,8 +1,15 @@
 -- The theorems of specs/Promise.antt. Assumes nothing.
 use native.Mathlib.Omega.{arith}
+use lib.ListN.{length, getD}
+use Rattle.message.specs.Header.{kindOf}
+use Rattle.completer.specs.Answers.{failed, answerTo}
+use Rattle.completer.specs.Carrying.{asked}
+use Rattle.completer.proofs.Laws.Promised.{answers-then}
 use Rattle.once.proofs.Promise.{finished-or-one-more}
 use Rattle.once.proofs.Tagged.{tagged-safety, tagged-progress, tagged-extends, tagged-says}
-use Rattle.exchange.specs.Promise.{Memory, FinishedOutcomes, AllFinished, NeverStuck, Tags}
+use Rattle.exchange.specs.Promise.{Memory, FinishedOutcomes, OutcomeThen, AllFinished, NeverStuck, Tags}
+use Rattle.exchange.specs.Outcomes.{outcomeOver}
+use Rattle.exchange.proofs.Codec.{result-at}
 use Rattle.exchange.proofs.Facts.{tagged}
 use Rattle.exchange.proofs.Begins.{begins}
 
@@ -15,6 +22,12 @@ pub finished-outcomes : FinishedOutcomes
 finished-outcomes c s b es n =
     let p = tagged-safety tagged c s (begins c s b) es n in
     record { offered = omega (arith, p .finished-or, p .offered); are = p .outcomes }
+
+pub outcome-then : OutcomeThen
+unfolding outcomeOver
+outcome-then memory message before c behind e ok =
+    let items = answerTo (asked message) 0 memory in
+    (getD items (length before) failed, result-at (kindOf (asked message .byte0)) items (length before), answers-then (asked message) 0 memory before c behind e ok)
 
 pub all-finished : AllFinished
 all-finished c s b = tagged-progress tagged c s (begins c s b)

@@ -48,21 +48,21 @@ night =
     -- the next message, the first send late, and the old answer once more
     offer reading ∷ arrive 0 output ∷ back 0 ∷ send 0 ∷ arrive 2 output ∷ back 4 ∷ []
 
--- what the controller gave at each arrival, the words of it: 80000030 to the write, each time; 800200B0 000005C0 00000010 to the
+-- what the controller gave at each arrival, the words of it: 80000030 to the write, each time; 800200B0, 1,472 and 10 to the
 -- discovery; 80020031 and both words to the reading
 abbrev pub Given : Type 0
 Given =
     morning controller loader night .answers
     ≡ (message 0, some (bytesOf (0x80000030 ∷ [])))
     ∷ (message 0, some (bytesOf (0x80000030 ∷ [])))
-    ∷ (stranger, some (bytesOf (0x800200B0 ∷ 0x000005C0 ∷ 0x00000010 ∷ [])))
+    ∷ (stranger, some (bytesOf (0x800200B0 ∷ limitBytes ∷ 0x00000010 ∷ [])))
     ∷ (message 0, some (bytesOf (0x80000030 ∷ [])))
     ∷ (message 1, some (bytesOf (0x80020031 ∷ 0x00000000 ∷ 0xFEEDC0DE ∷ [])))
     ∷ []
 
 -- A sender made from the answer to a discovery that comes now: a start with this controller, whatever memory held then.
 abbrev pub anew : Loader
-anew = record { sender = startOf (bytesOf (0x800200B0 ∷ 0x000005C0 ∷ 0x00000011 ∷ [])) .sender; message = [] }
+anew = record { sender = startOf (bytesOf (0x800200B0 ∷ limitBytes ∷ 0x00000011 ∷ [])) .sender; message = [] }
 
 abbrev pub Anew : Type 0
 Anew = Begins (morning controller loader night .controller) anew

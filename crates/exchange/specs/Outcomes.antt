@@ -32,10 +32,13 @@ toldAt message p k = record { ending = endingIn k p; words = dataIn (kindOf (get
 unfoldable pub told : List ℕ → List ℕ → Outcome
 told message answer = each (countIn (judgedBy (read message) answer)) (toldAt message (judgedBy (read message) answer))
 
--- what a list of answers to a message of this kind says: statuses, and the data of OK reads
+-- what an answer to a command of this kind says: its status, and the data of an OK read; and a list of them
+abbrev pub resultOf : Kind → Answered → Result
+resultOf kind a = record { ending = Ended (a .status); words = dataOf kind (a .status) (a .payload) }
+
 unfoldable pub resultsIn : Kind → List Answered → Outcome
 resultsIn kind [] = []
-resultsIn kind (a ∷ more) = record { ending = Ended (a .status); words = dataOf kind (a .status) (a .payload) } ∷ resultsIn kind more
+resultsIn kind (a ∷ more) = resultOf kind a ∷ resultsIn kind more
 
 -- The outcome of carrying out a message over this memory. Word 1 of the advertisement is in no read's data: it may be any, as 0.
 unfoldable pub outcomeOver : List ℕ → List ℕ → Outcome

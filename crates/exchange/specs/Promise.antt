@@ -7,14 +7,20 @@ use mathlib.Core.Path.{_≡_}
 use mathlib.Core.Bool.{true}
 use mathlib.Core.Logic.{_⊎_}
 use mathlib.Core.Option.{some}
-use mathlib.Core.List.{List}
+use mathlib.Core.List.{List, _∷_, _++_}
 use lib.ListN.{length, getD, getElem?, take}
-use Rattle.message.specs.Header.{tagOf}
+use Rattle.message.specs.Header.{tagOf, kindOf}
+use Rattle.message.specs.Request.{Command}
+use Rattle.message.specs.Answer.{Answered}
+use Rattle.completer.specs.Answers.{failed}
+use Rattle.completer.specs.Carrying.{asked}
+use Rattle.completer.specs.Promises.{carried, AnsweredThen}
 use Rattle.completer.specs.Tags.{isFresh}
 use Rattle.initiator.specs.Discovery.{discoveryBytes}
 use Rattle.initiator.specs.Sender.{freshSender, startOf}
 use Rattle.once.specs.World.{Event, World, finished}
 use Rattle.once.specs.Promise.{Ages, AllowedRun, after, made, results, Progress, Extends}
+use Rattle.exchange.specs.Outcomes.{resultOf, outcomeOver}
 use Rattle.exchange.specs.Ends.{Controller, Loader, ends}
 use Rattle.exchange.specs.Terms.{Lendable, terms, Sound}
 
@@ -65,13 +71,24 @@ pub record FirstMessages (m : List ℕ) (w : World ends) : Type 0 where
 abbrev pub Memory : Type 0
 Memory = (c : Controller) (s : Loader) → Begins c s → (es : List (Event ends)) → Night c s es → FirstMessages (c .memory) (morning c s es)
 
--- "Each finished outcome is from that carrying out.": statuses, and read data as memory's words at that moment (Outcomes).
+-- "Each finished outcome is from that carrying out.": `results` takes `outcomeOver` (Outcomes) of each message over memory as the ones
+-- before it made it.
 pub record OutcomesOf (m : List ℕ) (w : World ends) : Type 0 where
   pub offered : finished ends w ≤ length (w .offered)
   pub are : w .outcomes ≡ results terms m (take (finished ends w) (w .offered))
 
 abbrev pub FinishedOutcomes : Type 0
 FinishedOutcomes = (c : Controller) (s : Loader) → Begins c s → (es : List (Event ends)) → Night c s es → OutcomesOf (c .memory) (morning c s es)
+
+-- That outcome, command by command, is "the status and read data of each answered command": each command up to the first that fails is
+-- answered with its status, and a read with memory's words at that moment (`AnsweredThen` of completer).
+abbrev pub OutcomeThen : Type 0
+OutcomeThen =
+    (memory message : List ℕ) (before : List Command) (c : Command) (behind : List Command) → asked message .commands ≡ before ++ (c ∷ behind)
+    → carried (kindOf (asked message .byte0)) (length memory) before ≡ before
+    → (a : Answered)
+    × (getD (outcomeOver memory message) (length before) (resultOf (kindOf (asked message .byte0)) failed) ≡ resultOf (kindOf (asked message .byte0)) a)
+    × AnsweredThen (asked message) 0 memory before c a
 
 -- "If sending goes on and of any L sends in a row (L at least 1) one arrives and its answer is back before the next send, all are
 -- finished by send N times L.": for each number of messages, and from any moment on (`Progress` of once).
