@@ -12,6 +12,7 @@ use Rattle.message.specs.Walk.{refusal}
 use Rattle.message.specs.Request.{Request, Wrong, Means, read, lengthOk, Fits}
 use Rattle.message.specs.Answer.{Answered, answerByte, judge}
 use Rattle.message.proofs.Laws.Faults.{no-mean}
+use Rattle.message.proofs.Laws.Answers.{answer-tag, answer-discovery}
 use Rattle.message.proofs.Laws.Back.{written-read}
 use Rattle.message.proofs.Laws.Going.{read-first}
 use Rattle.message.proofs.Laws.Judged.{judge-encoded, other-byte}
@@ -21,7 +22,6 @@ use Rattle.completer.specs.Carrying.{asked}
 use Rattle.initiator.specs.Outcome.{answerTo, endingAt, dataAt}
 use Rattle.exchange.specs.Outcomes.{Outcome, each, toldAt, told, resultOf, resultsIn}
 use Rattle.exchange.specs.Sight.{Plain, Encodes, Answers}
-use Rattle.exchange.proofs.AnswerBytes.{answer-tag, answer-finds}
 
 -- what a datagram asks is what it means
 pub means-asked : (d : List ℕ) (r : Request) → read d ≡ Means r → asked d ≡ r
@@ -81,7 +81,7 @@ module _ {d : List ℕ} (p : Plain d) (r : Request) {a : List ℕ} (h : Headed r
 
   -- of a discovery
   pub other-kind : (discoveryOf (r .byte0) ≡ discoveryOf (p .request .byte0) → ⊥) → answerTo (read d) a ≡ Wrong (refusal 33)
-  other-kind n = unlike (λ e. n (sym (answer-finds (r .byte0)) ∙ ap discoveryOf e ∙ answer-finds (p .request .byte0)))
+  other-kind n = unlike (λ e. n (sym (answer-discovery (r .byte0)) ∙ ap discoveryOf e ∙ answer-discovery (p .request .byte0)))
 
 -- the result of a command is that of its answer
 pub result-at : (kind : Kind) (items : List Answered) (k : ℕ) → getD (resultsIn kind items) k (resultOf kind failed) ≡ resultOf kind (getD items k failed)

@@ -1,5 +1,5 @@
 -- What proves it: Promise has the theorems. Facts: the two ends meet what `once` asks, from the facts about the loader (Sender) and the
--- controller (Controller, by what its call goes by: Going). Begins and Started: the two starts. Codec and AnswerBytes: what crosses the
+-- controller (Controller, by what its call goes by: Going). Begins and Started: the two starts. Codec: what crosses the
 -- channel. Example and Sharp compute, by the tests of Checked.
 pub mod Promise
 pub mod Facts
@@ -9,7 +9,6 @@ pub mod Going
 pub mod Begins
 pub mod Started
 pub mod Codec
-pub mod AnswerBytes
 pub mod Example
 pub mod Sharp
 pub mod Checked
