@@ -7,6 +7,7 @@ use mathlib.Core.List.{List, [], _∷_}
 use lib.ListN.{length, take}
 use Rattle.word.specs.Words.{bytesOf, putWords}
 use Rattle.message.specs.Limits.{limitBytes}
+use Rattle.message.specs.Discovery.{discoveryBytes}
 use Rattle.completer.specs.declared.tags.TagRecord.{TagRecord}
 use Rattle.completer.specs.declared.serving.Verdict.the-variants.{New, Repeat, Discovery}
 use Rattle.completer.specs.Tags.{markOf, lentOk, keptOk}
@@ -47,12 +48,8 @@ abbrev pub DiscoveryKeeps : List ℕ → List ℕ → List ℕ → TagRecord →
 DiscoveryKeeps m s o t dg =
     verdictOf (length m) (length s) (length o) t dg ≡ Discovery → (after m s o t dg .served .tags ≡ t) × (after m s o t dg .stored ≡ s)
 
--- "the fixed discovery 80020080 000005C0 00000000"
-unfoldable pub fixedDiscovery : List ℕ
-fixedDiscovery = bytesOf (0x80020080 ∷ 0x000005C0 ∷ 0x00000000 ∷ [])
-
--- the answer to it depends on the stored tag alone
+-- the answer to the fixed discovery depends on the stored tag alone
 abbrev pub DiscoveryAnswered : List ℕ → List ℕ → List ℕ → TagRecord → Type 0
 DiscoveryAnswered m s o t =
     lentOk (length m) (length o) ≡ true → keptOk (length s) t ≡ true
-    → after m s o t fixedDiscovery ≡ record { served = sent 3 t; memory = m; stored = s; output = putWords o 0 (0x800200B0 ∷ limitBytes ∷ markOf t ∷ []) }
+    → after m s o t discoveryBytes ≡ record { served = sent 3 t; memory = m; stored = s; output = putWords o 0 (0x800200B0 ∷ limitBytes ∷ markOf t ∷ []) }

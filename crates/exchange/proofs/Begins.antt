@@ -11,13 +11,13 @@ use lib.ListN.{take}
 use Rattle.word.specs.Words.{bytesOf}
 use Rattle.word.proofs.Runs.{words-front}
 use Rattle.message.specs.Limits.{limitBytes}
+use Rattle.message.specs.Discovery.{discoveryBytes}
 use Rattle.completer.specs.declared.tags.TagRecord.{TagRecord}
 use Rattle.completer.specs.Tags.{markOf}
 use Rattle.completer.proofs.Laws.Verdicts.{holds}
 use Rattle.completer.proofs.Laws.Discovered.{discovery-answered}
 use Rattle.initiator.specs.declared.sender.Sender.{Sender}
 use Rattle.initiator.specs.declared.sender.Moved.{Moved}
-use Rattle.initiator.specs.Discovery.{discoveryBytes}
 use Rattle.initiator.specs.Sender.{freshSender, wordOk, nextAfter, startedAt, startOf}
 use Rattle.once.specs.Tags.{nextTag, tagIn, Start}
 use Rattle.exchange.specs.Ends.{Controller, Loader, ends, sentIn, serving}
@@ -25,7 +25,7 @@ use Rattle.exchange.specs.Terms.{terms, Sound}
 use Rattle.exchange.specs.Sight.{storedBy, sight}
 use Rattle.exchange.specs.Promise.{FreshPair, Discovered, Begins}
 use Rattle.exchange.proofs.Going.{lent-ok, kept-ok, mark-small}
-use Rattle.exchange.proofs.Started.{same-discovery, started-at}
+use Rattle.exchange.proofs.Started.{started-at}
 
 -- the sender that is made where the record is this one
 abbrev madeBy : Controller → Sender
@@ -54,7 +54,7 @@ answer-is {c} d =
     let e = d .earlier in
     let a = discovery-answered (e .memory) (e .stored) (d .lent) (e .tags) (lent-ok e (d .lent) (d .sound) (d .long)) (kept-ok e (d .lent) (d .sound) (d .long)) in
     let g : sentIn (serving e (d .lent) discoveryBytes) ≡ some (bytesOf (0x800200B0 ∷ limitBytes ∷ markOf (e .tags) ∷ [])) =
-    ap (λ (x : List ℕ). sentIn (serving e (d .lent) x)) same-discovery ∙ ap sentIn a ∙ ap some (words-front (d .lent) (0x800200B0 ∷ limitBytes ∷ markOf (e .tags) ∷ [])) in
+    ap sentIn a ∙ ap some (words-front (d .lent) (0x800200B0 ∷ limitBytes ∷ markOf (e .tags) ∷ [])) in
     Option·some-injective _ _ (sym (d .given) ∙ g) ∙ ap (λ (t : TagRecord). bytesOf (0x800200B0 ∷ limitBytes ∷ markOf t ∷ [])) (d .since)
 
 pub begins : (c : Controller) (s : Loader) → Begins c s → Start ends terms sight c s

@@ -11,12 +11,12 @@ use Rattle.message.specs.Header.{kindNo, byte0From, headerFrom, headOf}
 use Rattle.message.specs.Walk.{patternOk, faultOf, stepOn}
 use Rattle.message.specs.Request.{addressFrom, commandOf, commandsFrom, replies, ended, lengthOk, read}
 use Rattle.message.specs.Answer.{statusNo, answerByte, answerFault, seenOf, lookOn, answersFrom, judge, answeredWords, answerWords}
+use Rattle.message.specs.Discovery.{discoveryBytes}
 use Rattle.completer.specs.Moves.{outside, fetches, storesBehind, stores, moves, afterMoves, memoryAfter}
 use Rattle.completer.specs.Answers.{answerOf, answers, answerTo, wordsTo}
 use Rattle.completer.specs.Carrying.{asked}
 use Rattle.completer.specs.Tags.{repeats, expected, markOf, lentOk, heldOk, recordOk, keptOk}
 use Rattle.completer.specs.Serving.{ruleOf, verdictOf, answerBy, after}
-use Rattle.initiator.specs.Discovery.{discoveryBytes}
 use Rattle.initiator.specs.Outcome.{answerTo as judgedBy, endingAt, dataAt}
 use Rattle.initiator.specs.Sender.{asksAs, offerFault, sendFault, offerOf, sendOf, takeOf}
 use Rattle.once.specs.World.{start}

@@ -13,15 +13,8 @@ use Rattle.message.specs.Limits.{limitBytes}
 use Rattle.message.specs.Header.{kindNo, byte0From}
 use Rattle.message.proofs.Laws.Round.{length-right}
 use Rattle.message.specs.Answer.{statusNo, answerByte, answerFault, seenOf, lookOn, lookAt}
-use Rattle.completer.specs.Called.{fixedDiscovery}
-use Rattle.initiator.specs.Discovery.{discoveryBytes}
 use Rattle.initiator.specs.Sender.{discoveryByte, startedAt, startOf}
 use Rattle.initiator.proofs.Laws.Starting.{start-as}
-
--- the two ends mean the same discovery
-pub same-discovery : discoveryBytes ≡ fixedDiscovery
-unfolding discoveryBytes fixedDiscovery bytesOf
-same-discovery = refl
 
 module _ (mark : ℕ) (small : mark < 4294967296) where
   abbrev ws : List ℕ

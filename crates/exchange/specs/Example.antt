@@ -9,8 +9,8 @@ use lib.ListN.{replicate}
 use Rattle.word.specs.Words.{bytesOf}
 use Rattle.message.specs.declared.answer.Status.the-variants.{Ok}
 use Rattle.message.specs.Limits.{limit, limitBytes}
+use Rattle.message.specs.Discovery.{discoveryBytes}
 use Rattle.completer.specs.Tags.{freshRecord}
-use Rattle.initiator.specs.Discovery.{discoveryBytes}
 use Rattle.initiator.specs.declared.outcome.Ending.the-variants.{Ended}
 use Rattle.initiator.specs.Sender.{freshSender, startOf}
 use Rattle.once.specs.World.{Event, offer, send, arrive, back, other, message, stranger}

@@ -12,11 +12,11 @@ use lib.ListN.{length, getD, getElem?, take}
 use Rattle.message.specs.Header.{tagOf, kindOf}
 use Rattle.message.specs.Request.{Command}
 use Rattle.message.specs.Answer.{Answered}
+use Rattle.message.specs.Discovery.{discoveryBytes}
 use Rattle.completer.specs.Answers.{failed}
 use Rattle.completer.specs.Carrying.{asked}
 use Rattle.completer.specs.Promises.{carried, AnsweredThen}
 use Rattle.completer.specs.Tags.{isFresh}
-use Rattle.initiator.specs.Discovery.{discoveryBytes}
 use Rattle.initiator.specs.Sender.{freshSender, startOf}
 use Rattle.once.specs.World.{Event, World, finished}
 use Rattle.once.specs.Promise.{Ages, AllowedRun, after, made, results, Progress, Extends}

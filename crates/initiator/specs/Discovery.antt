@@ -1,25 +1,17 @@
--- The fixed discovery, and that building it gives it. Assumes nothing.
+-- That building the fixed discovery gives it. Assumes nothing.
 use Prim.Native.Nat.{ℕ, _≤_}
 use mathlib.Core.Path.{_≡_}
 use mathlib.Core.Bool.{true, false}
-use mathlib.Core.List.{List, [], _∷_}
+use mathlib.Core.List.{List}
 use lib.ListN.{length}
-use Rattle.word.specs.Words.{bytesOf}
 use Rattle.message.specs.Limits.{limitBytes}
 use Rattle.message.specs.Walk.{refusal}
+use Rattle.message.specs.Discovery.{discoveryData, discoveryBytes}
 use Rattle.initiator.specs.declared.building.Building.{Building}
 use Rattle.initiator.specs.declared.asked.Asked.{Asked}
 use Rattle.initiator.specs.Build.{begun, added, addedTo, closed, closedTo}
 use Rattle.initiator.specs.Reach.{Lent}
 use Rattle.initiator.specs.Sequence.{sent}
-
--- its data: the most bytes of a message, and 0
-abbrev pub discoveryData : List ℕ
-discoveryData = limitBytes ∷ 0 ∷ []
-
--- "the fixed discovery 80020080 000005C0 00000000"
-unfoldable pub discoveryBytes : List ℕ
-discoveryBytes = bytesOf (2147614848 ∷ discoveryData)
 
 -- a NOP of tag 0 with the discovery bit, begun, and its data added; what a NOP has no use for is free
 abbrev pub discoveryBegun : List ℕ → Building

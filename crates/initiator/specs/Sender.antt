@@ -7,12 +7,12 @@ use lib.Dec.{ltb, eqb}
 use Rattle.message.specs.declared.answer.Status.{Status}
 use Rattle.message.specs.declared.answer.Status.the-variants.{Ok, Timeout, Error}
 use Rattle.message.specs.declared.refusal.Refusal.{Refusal}
-use Rattle.message.specs.Limits.{limitBytes}
 use Rattle.message.specs.declared.header.Kind.the-variants.{Nop}
 use Rattle.message.specs.Header.{tagOf, discoveryOf, byte0From}
 use Rattle.message.specs.Walk.{refusal, unless}
 use Rattle.message.specs.Request.{Command, Request, Reading, Wrong, Means, read}
 use Rattle.message.specs.Answer.{Answered, judge}
+use Rattle.message.specs.Discovery.{discoveryData}
 use Rattle.initiator.specs.declared.sender.Sender.{Sender}
 use Rattle.initiator.specs.declared.sender.Moved.{Moved}
 use Rattle.initiator.specs.Outcome.{answerTo}
@@ -67,7 +67,7 @@ unfoldable pub discoveryByte : ℕ
 discoveryByte = byte0From 0 Nop false true
 
 abbrev pub discoveryCommand : Command
-discoveryCommand = record { byte1 = 0; count = 2; address = 0; payload = limitBytes ∷ 0 ∷ [] }
+discoveryCommand = record { byte1 = 0; count = 2; address = 0; payload = discoveryData }
 
 abbrev pub discoveryRequest : Request
 discoveryRequest = record { byte0 = discoveryByte; commands = discoveryCommand ∷ [] }

@@ -1,6 +1,6 @@
 // The fixed discovery.
 ghost use mathlib.Core.Path.{_≡_};
-ghost use Rattle.initiator.specs.Discovery.{discoveryBytes};
+ghost use Rattle.message.specs.Discovery.{discoveryBytes};
 
 // Its bytes: 80020080, the most bytes of a message, 0.
 pub fn bytes() -> [u8; 12]

@@ -4,5 +4,6 @@ pub mod Header
 pub mod Walk
 pub mod Request
 pub mod Answer
+pub mod Discovery
 pub mod Refusals
 pub mod Examples

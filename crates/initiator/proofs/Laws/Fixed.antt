@@ -12,6 +12,7 @@ use Rattle.message.specs.Limits.{limitBytes}
 use Rattle.message.specs.Header.{kindNo, byte0From, headerFrom}
 use Rattle.message.specs.Walk.{refusal}
 use Rattle.message.specs.Request.{Command, addressIn, commandWords, requestWords, written}
+use Rattle.message.specs.Discovery.{discoveryData, discoveryBytes}
 use Rattle.initiator.specs.declared.building.Building.{Building}
 use Rattle.initiator.specs.declared.asked.Asked.{Asked}
 use Rattle.initiator.specs.declared.build.Built.{Built}
@@ -20,7 +21,7 @@ use Rattle.initiator.specs.Asked.{commandBy, countFits, sizeBy, replyBy,
 use Rattle.initiator.specs.Build.{gives, longOk, opened, begun, addFault, closeFault, grown, added, addedTo, closed}
 use Rattle.initiator.specs.Reach.{Lent}
 use Rattle.initiator.specs.Sequence.{Adding, begins, adds}
-use Rattle.initiator.specs.Discovery.{discoveryData, discoveryBytes, discoveryBegun, discoveryAdded, discoveryOut, DiscoveryIsBuilt}
+use Rattle.initiator.specs.Discovery.{discoveryBegun, discoveryAdded, discoveryOut, DiscoveryIsBuilt}
 use Rattle.initiator.proofs.Laws.Sequence.{built-is-read}
 
 -- the record that begin gives, and that with the data added

@@ -3,7 +3,7 @@ use mathlib.Core.Path.{_≡_, refl}
 use Rattle.word.specs.Words.{bytesOf}
 use Rattle.message.specs.Header.{kindNo, byte0From, headerFrom}
 use Rattle.message.specs.Request.{addressIn, commandWords, requestWords, written}
-use Rattle.initiator.specs.Discovery.{discoveryBytes}
+use Rattle.message.specs.Discovery.{discoveryBytes}
 use Rattle.initiator.specs.Sender.{discoveryByte, discoveryRequest}
 
 pub same-discovery : written discoveryRequest ≡ discoveryBytes

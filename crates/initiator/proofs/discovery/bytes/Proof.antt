@@ -1,6 +1,6 @@
 -- `initiator::discovery::bytes` meets its contract: its bytes, computed. Assumes nothing.
 use mathlib.Core.Path.{refl}
-use Rattle.initiator.specs.Discovery.{discoveryBytes}
+use Rattle.message.specs.Discovery.{discoveryBytes}
 use Rattle.word.specs.Words.{bytesOf}
 use borrow.Author.Needs.{needs}
 use Rattle.initiator.proofs.discovery.bytes.Statement.{statement}

@@ -1,0 +1,13 @@
+-- The fixed discovery, which the loader sends and the controller answers: the contracts and theorems of both cite it. Assumes nothing.
+use Prim.Native.Nat.{ℕ}
+use mathlib.Core.List.{List, [], _∷_}
+use Rattle.word.specs.Words.{bytesOf}
+use Rattle.message.specs.Limits.{limitBytes}
+
+-- its data: the most bytes of a message, and 0
+abbrev pub discoveryData : List ℕ
+discoveryData = limitBytes ∷ 0 ∷ []
+
+-- "the fixed discovery 80020080 000005C0 00000000"
+unfoldable pub discoveryBytes : List ℕ
+discoveryBytes = bytesOf (2147614848 ∷ discoveryData)
