@@ -11,4 +11,3 @@ pub mod Parts
 pub mod Sending
 pub mod Starting
 pub mod Promised
-pub mod SameDiscovery

@@ -1,4 +1,5 @@
--- Building the fixed discovery gives it: `discovery-is-built`, computed. Assumes nothing.
+-- The request that a sender's start is judged against is the fixed discovery, and building it gives it: `same-discovery`,
+-- `discovery-is-built`, computed. Assumes nothing.
 use Prim.Native.Nat.{ℕ, _≤_}
 use mathlib.Core.Path.{_≡_, refl, ap, _∙_}
 use mathlib.Core.Bool.{true, false}
@@ -11,7 +12,7 @@ use Rattle.word.proofs.Runs.{length-words}
 use Rattle.message.specs.Limits.{limitBytes}
 use Rattle.message.specs.Header.{kindNo, byte0From, headerFrom}
 use Rattle.message.specs.Walk.{refusal}
-use Rattle.message.specs.Request.{Command, addressIn, commandWords, requestWords, written}
+use Rattle.message.specs.Request.{addressIn, commandWords, requestWords, written}
 use Rattle.message.specs.Discovery.{discoveryData, discoveryBytes}
 use Rattle.initiator.specs.declared.building.Building.{Building}
 use Rattle.initiator.specs.declared.asked.Asked.{Asked}
@@ -22,7 +23,13 @@ use Rattle.initiator.specs.Build.{gives, longOk, opened, begun, addFault
 use Rattle.initiator.specs.Reach.{Lent}
 use Rattle.initiator.specs.Sequence.{Adding, begins, adds}
 use Rattle.initiator.specs.Discovery.{discoveryBegun, discoveryAdded, discoveryOut, DiscoveryIsBuilt}
+use Rattle.initiator.specs.Sender.{discoveryByte, discoveryRequest}
 use Rattle.initiator.proofs.Laws.Sequence.{built-is-read}
+
+-- the request's bytes
+pub same-discovery : written discoveryRequest ≡ discoveryBytes
+unfolding written requestWords commandWords addressIn headerFrom byte0From kindNo discoveryByte discoveryBytes
+same-discovery = refl
 
 -- the record that begin gives, and that with the data added
 abbrev first : Building
@@ -30,14 +37,6 @@ first = opened 0 0 false true
 
 abbrev second : Building
 second = grown first 2
-
--- the command, and its bytes
-abbrev advert : Command
-advert = record { byte1 = 0; count = 2; address = 0; payload = discoveryData }
-
-advert-bytes : written (record { byte0 = byte0From 0 (kindNo 0) false true; commands = advert ∷ [] }) ≡ discoveryBytes
-unfolding written requestWords commandWords addressIn headerFrom byte0From kindNo discoveryBytes
-advert-bytes = refl
 
 module _ (out : List ℕ) (asked : Asked) (room : limitBytes ≤ length out) (lent : Lent asked discoveryData) where
   long : longOk (length out) ≡ true
@@ -89,8 +88,8 @@ module _ (out : List ℕ) (asked : Asked) (room : limitBytes ≤ length out) (le
   closed-fine = rw (added-second, close-fault (length (discoveryOut out asked)) (le-leb _ _ out-long))
 
   request-is : written (record { byte0 = byteOf (discoveryAdded out asked); commands = [] ++ commandBy (byteOf (discoveryBegun out)) asked discoveryData ∷ [] }) ≡ discoveryBytes
-  unfolding commandBy byteOf grown opened kindNo byte0From
-  request-is = rw (added-second, begun-first) advert-bytes
+  unfolding commandBy byteOf grown opened kindNo byte0From discoveryByte
+  request-is = rw (added-second, begun-first) same-discovery
 
 pub discovery-is-built : DiscoveryIsBuilt
 discovery-is-built out asked room lent =
