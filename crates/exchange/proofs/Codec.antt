@@ -19,7 +19,7 @@ use Rattle.message.proofs.Laws.Judged.{judge-encoded, other-byte}
 use Rattle.message.proofs.Laws.Looking.{judge-long}
 use Rattle.completer.specs.Answers.{failed}
 use Rattle.completer.specs.Carrying.{asked}
-use Rattle.initiator.specs.Outcome.{answerTo, endingAt, dataAt}
+use Rattle.initiator.specs.Outcome.{judgedBy, endingAt, dataAt}
 use Rattle.exchange.specs.Outcomes.{Outcome, each, toldAt, told, resultOf, resultsIn}
 use Rattle.exchange.specs.Sight.{Plain, Encodes, Answers}
 
@@ -46,8 +46,8 @@ module _ {d : List ℕ} (p : Plain d) where
   first-clear = ap discoveryOf first-is ∙ p .clear
 
   -- 31 lets it by, so an answer is judged
-  pub judged-by : (a : List ℕ) → answerTo (read d) a ≡ judge (p .request) a
-  unfolding answerTo
+  pub judged-by : (a : List ℕ) → judgedBy (read d) a ≡ judge (p .request) a
+  unfolding judgedBy
   judged-by a = rw (p .is, p .clear)
 
 -- an answer that may be given to a request is judged to be what it says
@@ -72,15 +72,15 @@ judged-headed r a items m = go (lengthOk (length a)) refl
 
 -- an answer with another byte 0 is 33
 module _ {d : List ℕ} (p : Plain d) (r : Request) {a : List ℕ} (h : Headed r a) where
-  unlike : (answerByte (r .byte0) ≡ answerByte (p .request .byte0) → ⊥) → answerTo (read d) a ≡ Wrong (refusal 33)
+  unlike : (answerByte (r .byte0) ≡ answerByte (p .request .byte0) → ⊥) → judgedBy (read d) a ≡ Wrong (refusal 33)
   unlike n = judged-by p a ∙ other-byte (p .request) a (h .long) (λ e. n (sym (h .first) ∙ e))
 
   -- of another tag
-  pub other-tag : (tagOf (r .byte0) ≡ tagOf (p .request .byte0) → ⊥) → answerTo (read d) a ≡ Wrong (refusal 33)
+  pub other-tag : (tagOf (r .byte0) ≡ tagOf (p .request .byte0) → ⊥) → judgedBy (read d) a ≡ Wrong (refusal 33)
   other-tag n = unlike (λ e. n (sym (answer-tag (r .byte0)) ∙ ap tagOf e ∙ answer-tag (p .request .byte0)))
 
   -- of a discovery
-  pub other-kind : (discoveryOf (r .byte0) ≡ discoveryOf (p .request .byte0) → ⊥) → answerTo (read d) a ≡ Wrong (refusal 33)
+  pub other-kind : (discoveryOf (r .byte0) ≡ discoveryOf (p .request .byte0) → ⊥) → judgedBy (read d) a ≡ Wrong (refusal 33)
   other-kind n = unlike (λ e. n (sym (answer-discovery (r .byte0)) ∙ ap discoveryOf e ∙ answer-discovery (p .request .byte0)))
 
 -- the result of a command is that of its answer
@@ -99,7 +99,7 @@ each-told message (a ∷ more) = rw (each-told message more)
 
 module _ {d : List ℕ} (p : Plain d) {o : Outcome} {a : List ℕ} (h : Answers d o a) where
   -- a message's own answer is judged to be the answers given
-  pub own-judged : answerTo (read d) a ≡ Means (h .items)
+  pub own-judged : judgedBy (read d) a ≡ Means (h .items)
   own-judged = judged-by p a ∙ rw (← asked-is p) (encodes-judged (asked-fits p) (h .encodes))
 
   -- and tells its outcome

@@ -17,7 +17,7 @@ use Rattle.completer.specs.Answers.{answerOf, answers, answerTo, wordsTo}
 use Rattle.completer.specs.Carrying.{asked}
 use Rattle.completer.specs.Tags.{repeats, expected, markOf, lentOk, heldOk, recordOk, keptOk}
 use Rattle.completer.specs.Serving.{ruleOf, verdictOf, answerBy, after}
-use Rattle.initiator.specs.Outcome.{answerTo as judgedBy, endingAt, dataAt}
+use Rattle.initiator.specs.Outcome.{judgedBy, endingAt, dataAt}
 use Rattle.initiator.specs.Sender.{asksAs, offerFault, sendFault, offerOf, sendOf, takeOf}
 use Rattle.once.specs.World.{start}
 use Rattle.exchange.specs.Outcomes.{each, told}

@@ -16,7 +16,7 @@ use Rattle.message.specs.Answer.{Answered}
 use Rattle.message.proofs.Laws.Going.{read-first}
 use Rattle.initiator.specs.declared.sender.Sender.{Sender}
 use Rattle.initiator.specs.declared.sender.Moved.{Moved}
-use Rattle.initiator.specs.Outcome.{answerTo}
+use Rattle.initiator.specs.Outcome.{judgedBy}
 use Rattle.initiator.specs.Sender.{asksAs, offerFault, sendFault, offerOf, sendOf, takenBy, takeOf}
 use Rattle.initiator.proofs.Laws.Sending.{asks-wrong, asks-discovery, asks-tag}
 use Rattle.initiator.proofs.Laws.Promised.{take-judged}
@@ -93,10 +93,10 @@ module _ (s : Sender) (m : List ℕ) where
   take-idle a e = rw e
 
   module _ (a : List ℕ) (e : sendFault s m ≡ 0) where
-    take-fine : (items : List Answered) → answerTo (read m) a ≡ Means items → takeOf s m a ≡ record { refusal = refusal 0; sender = record { next = (s .next + 1) % 16; waits = false } }
+    take-fine : (items : List Answered) → judgedBy (read m) a ≡ Means items → takeOf s m a ≡ record { refusal = refusal 0; sender = record { next = (s .next + 1) % 16; waits = false } }
     take-fine items g = take-judged s m a e ∙ ap (takenBy s) g
 
-    take-wrong : (r : Refusal) → answerTo (read m) a ≡ Wrong r → takeOf s m a ≡ record { refusal = r; sender = s }
+    take-wrong : (r : Refusal) → judgedBy (read m) a ≡ Wrong r → takeOf s m a ≡ record { refusal = r; sender = s }
     take-wrong r g = take-judged s m a e ∙ ap (takenBy s) g
 
 -- bytes that are some are handed back
@@ -141,14 +141,14 @@ module _ {s : Loader} {d : List ℕ} (w : Waits ends terms sight s d) where
   -- its own answer ends it
   pub takes-own : {o : Outcome} {a : List ℕ} → Answers d o a → ends .take s a ≡ (record { sender = record { next = (s .sender .next + 1) % 16; waits = false }; message = s .message }, o ∷ [])
   takes-own {o} {a} h =
-      let g : answerTo (read (s .message)) a ≡ Means (h .items) = rw lent (own-judged (w .plain) h) in
+      let g : judgedBy (read (s .message)) a ≡ Means (h .items) = rw lent (own-judged (w .plain) h) in
       let t : told (s .message) a ≡ o = rw lent (own-told (w .plain) h) in
       ap (λ (r : Moved). takenIn r s a) (take-fine (s .sender) (s .message) a fine (h .items) g) ∙ rw t
 
   -- one that is 33 does not
-  refuses : (a : List ℕ) → answerTo (read d) a ≡ Wrong (refusal 33) → Turned ends terms sight s (ends .take s a)
+  refuses : (a : List ℕ) → judgedBy (read d) a ≡ Wrong (refusal 33) → Turned ends terms sight s (ends .take s a)
   refuses a g =
-      let h : answerTo (read (s .message)) a ≡ Wrong (refusal 33) = rw lent g in
+      let h : judgedBy (read (s .message)) a ≡ Wrong (refusal 33) = rw lent g in
       turned s _ (ap (λ (r : Moved). takenIn r s a) (take-wrong (s .sender) (s .message) a fine (refusal 33) h))
 
   pub refuses-other : {e : List ℕ} {o : Outcome} {a : List ℕ} → Plain e → Answers e o a → (tagOf (getD e 0 0) ≡ tagOf (getD d 0 0) → ⊥) → Turned ends terms sight s (ends .take s a)

@@ -10,7 +10,7 @@ use Rattle.completer.specs.Carrying.{asked}
 use Rattle.completer.specs.Answers.{answerTo}
 use Rattle.initiator.specs.declared.outcome.Ending.{Ending}
 use Rattle.initiator.specs.declared.outcome.Ending.the-variants.{Ended}
-use Rattle.initiator.specs.Outcome.{answerTo as judgedBy, countIn, endingIn, dataIn, dataOf}
+use Rattle.initiator.specs.Outcome.{judgedBy, countIn, endingIn, dataIn, dataOf}
 
 -- "its outcome is the status and read data of each answered command"
 pub record Result : Type 0 where

@@ -12,7 +12,7 @@ use Rattle.message.specs.Request.{commandWords}
 use Rattle.initiator.specs.declared.building.Building.{Building}
 use Rattle.initiator.specs.declared.asked.Asked.{Asked}
 use Rattle.initiator.specs.declared.build.Built.{Built}
-use Rattle.initiator.specs.Building.{startOk, byteOf, reachable}
+use Rattle.initiator.specs.Building.{startOk, byte0By, reachable}
 use Rattle.initiator.specs.Asked.{countBy, commandBy, sizeBy, replyBy, commandFault}
 
 -- what a call gives back: the number of its refusal, 0 for none, and the record
@@ -41,7 +41,7 @@ usable room b = longOk room && reachable b
 unfoldable pub addFault : ℕ → Building → Asked → ℕ → ℕ
 addFault room b asked lent =
     unless (usable room b) 21
-    (unless (not (b .closed)) 22 (commandFault (byteOf b) (b .words) (b .answer) asked (countBy (kindOf (byteOf b)) (asked .count) lent)))
+    (unless (not (b .closed)) 22 (commandFault (byte0By b) (b .words) (b .answer) asked (countBy (kindOf (byte0By b)) (asked .count) lent)))
 
 -- 21, then 22 "closing twice or closing with nothing added"
 unfoldable pub closeFault : ℕ → Building → ℕ
@@ -55,9 +55,9 @@ grown b count =
       tag = b .tag;
       wide = b .wide;
       discovery = b .discovery;
-      words = b .words + sizeBy (byteOf b) count;
+      words = b .words + sizeBy (byte0By b) count;
       last = b .words;
-      answer = b .answer + replyBy (byteOf b) count;
+      answer = b .answer + replyBy (byte0By b) count;
       closed = false;
     }
 
@@ -83,14 +83,14 @@ lastSet out last = put out (4 * last + 3) ((getD out (4 * last + 3) 0 % 128 + 12
 unfoldable pub added : List ℕ → Building → Asked → List ℕ → Built
 added out b asked payload =
     cond (eqb (addFault (length out) b asked (length payload)) 0)
-    (gives 0 (grown b (countBy (kindOf (byteOf b)) (asked .count) (length payload))))
+    (gives 0 (grown b (countBy (kindOf (byte0By b)) (asked .count) (length payload))))
     (gives (addFault (length out) b asked (length payload)) b)
 
 -- "Only the added command's bytes .. change": they stand behind the words so far
 unfoldable pub addedTo : List ℕ → Building → Asked → List ℕ → List ℕ
 addedTo out b asked payload =
     cond (eqb (addFault (length out) b asked (length payload)) 0)
-    (putWords out (b .words) (commandWords (byteOf b) false (commandBy (byteOf b) asked payload)))
+    (putWords out (b .words) (commandWords (byte0By b) false (commandBy (byte0By b) asked payload)))
     out
 
 -- closing: what the call gives back, and the output

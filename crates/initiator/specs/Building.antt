@@ -14,8 +14,8 @@ unfoldable pub startOk : ℕ → ℕ → Bool
 startOk kind tag = ltb kind 3 && ltb tag 16
 
 -- byte 0 of the headers, from "begin's four"
-unfoldable pub byteOf : Building → ℕ
-byteOf b = byte0From (b .tag) (kindNo (b .kind)) (b .wide) (b .discovery)
+unfoldable pub byte0By : Building → ℕ
+byte0By b = byte0From (b .tag) (kindNo (b .kind)) (b .wide) (b .discovery)
 
 -- nothing was added: no words, no answer, not closed
 unfoldable pub freshOk : Building → Bool
@@ -44,7 +44,7 @@ shapeOk Response a words last answer = false
 unfoldable pub someOk : Building → Bool
 someOk b =
     leb (b .words) limit && leb 1 (b .answer) && leb (b .answer) limit && ltb (b .last) (b .words)
-    && shapeOk (kindOf (byteOf b)) (addressWords (byteOf b)) (b .words) (b .last) (b .answer)
+    && shapeOk (kindOf (byte0By b)) (addressWords (byte0By b)) (b .words) (b .last) (b .answer)
 
 -- the records that some sequence of calls gives
 unfoldable pub reachable : Building → Bool

@@ -23,9 +23,9 @@ use Rattle.initiator.specs.declared.outcome.Outcome.{Outcome}
 use Rattle.initiator.specs.declared.outcome.Span.{Span}
 
 -- "31: request would be refused 2 to 10, has the discovery bit" (its tag clause aside); then 32 to 35
-unfoldable pub answerTo : Reading Request → List ℕ → Reading (List Answered)
-answerTo (Wrong r) answer = Wrong (refusal 31)
-answerTo (Means r) answer = cond (discoveryOf (r .byte0)) (Wrong (refusal 31)) (judge r answer)
+unfoldable pub judgedBy : Reading Request → List ℕ → Reading (List Answered)
+judgedBy (Wrong r) answer = Wrong (refusal 31)
+judgedBy (Means r) answer = cond (discoveryOf (r .byte0)) (Wrong (refusal 31)) (judge r answer)
 
 -- how command k ended, counted from 0
 unfoldable pub endingAt : ℕ → List Answered → Ending
@@ -103,12 +103,12 @@ toldOf kind k p =
 
 -- the part that comes back for command k: its start and its length, and that its bytes are that command's data words
 pub record ReadData (request answer : List ℕ) (k : ℕ) (part : List ℕ) : Type 0 where
-  pub place : part ≡ cut (partIn (kindOf (getD request 0 0)) k (answerTo (read request) answer)) answer
-  pub words : part ≡ bytesOf (dataIn (kindOf (getD request 0 0)) k (answerTo (read request) answer))
+  pub place : part ≡ cut (partIn (kindOf (getD request 0 0)) k (judgedBy (read request) answer)) answer
+  pub words : part ≡ bytesOf (dataIn (kindOf (getD request 0 0)) k (judgedBy (read request) answer))
 
 -- what an answer tells of its request and of command k
 unfoldable pub outcomeOf : List ℕ → List ℕ → ℕ → Outcome
-outcomeOf request answer k = toldOf (kindOf (getD request 0 0)) k (answerTo (read request) answer)
+outcomeOf request answer k = toldOf (kindOf (getD request 0 0)) k (judgedBy (read request) answer)
 
 -- what the calls inside `told` go by
 

@@ -9,7 +9,7 @@ use Rattle.message.specs.Request.{Request, Reading, Means, read, Fits}
 use Rattle.message.specs.Answer.{Answered, encodeAnswer, FitsAnswer}
 use Rattle.initiator.specs.declared.sender.Sender.{Sender}
 use Rattle.initiator.specs.declared.sender.Moved.{Moved}
-use Rattle.initiator.specs.Outcome.{answerTo}
+use Rattle.initiator.specs.Outcome.{judgedBy}
 use Rattle.initiator.specs.Sender.{sendFault, offerOf, takeOf}
 
 -- a refusal leaves the sender as it was
@@ -29,7 +29,7 @@ pub record Accepted (s : Sender) (message answer : List ℕ) : Type 0 where
   pub asked : read message ≡ Means request
   pub fits : Fits request
   pub items : List Answered
-  pub told : answerTo (read message) answer ≡ Means items
+  pub told : judgedBy (read message) answer ≡ Means items
   pub encoded : answer ≡ encodeAnswer request items
   pub answers : FitsAnswer request items
 

@@ -15,7 +15,7 @@ use Rattle.message.specs.Answer.{Answered, judge}
 use Rattle.message.specs.Discovery.{discoveryData}
 use Rattle.initiator.specs.declared.sender.Sender.{Sender}
 use Rattle.initiator.specs.declared.sender.Moved.{Moved}
-use Rattle.initiator.specs.Outcome.{answerTo}
+use Rattle.initiator.specs.Outcome.{judgedBy}
 
 -- "A sender starts with next tag 0 for a fresh pair"
 abbrev pub freshSender : Sender
@@ -60,7 +60,7 @@ takenBy s (Means items) = record { refusal = refusal 0; sender = record { next =
 -- taking: 37, 30, 31, then 32 to 35
 unfoldable pub takeOf : Sender → List ℕ → List ℕ → Moved
 takeOf s message answer =
-    cond (eqb (sendFault s message) 0) (takenBy s (answerTo (read message) answer)) (record { refusal = refusal (sendFault s message); sender = s })
+    cond (eqb (sendFault s message) 0) (takenBy s (judgedBy (read message) answer)) (record { refusal = refusal (sendFault s message); sender = s })
 
 -- "the fixed discovery": a NOP of two words, the most bytes of a message and 0
 unfoldable pub discoveryByte : ℕ

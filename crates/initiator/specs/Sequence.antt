@@ -8,7 +8,7 @@ use Rattle.message.specs.Walk.{refusal}
 use Rattle.message.specs.Request.{Command, Request, Wrong, Means, read, written, replies, none}
 use Rattle.initiator.specs.declared.building.Building.{Building}
 use Rattle.initiator.specs.declared.asked.Asked.{Asked}
-use Rattle.initiator.specs.Building.{byteOf}
+use Rattle.initiator.specs.Building.{byte0By}
 use Rattle.initiator.specs.Asked.{commandBy}
 use Rattle.initiator.specs.Build.{begun, added, addedTo, closed, closedTo}
 use Rattle.initiator.specs.Reach.{Lent}
@@ -19,7 +19,7 @@ pub data Adding (start : List ℕ) : List Command → Building → List ℕ → 
       → Adding start [] (begun (length start) kind tag wide discovery .building) start
   adds : {cs : List Command} {b : Building} {out : List ℕ} → Adding start cs b out → (asked : Asked) (payload : List ℕ) → Lent asked payload
       → added out b asked payload .refusal ≡ refusal 0
-      → Adding start (cs ++ commandBy (byteOf b) asked payload ∷ []) (added out b asked payload .building) (addedTo out b asked payload)
+      → Adding start (cs ++ commandBy (byte0By b) asked payload ∷ []) (added out b asked payload .building) (addedTo out b asked payload)
 
 -- the first bytes of an output, as many as the record's words
 abbrev pub sent : Building → List ℕ → List ℕ
@@ -37,7 +37,7 @@ pub record Holds (start : List ℕ) (r : Request) (b : Building) (out : List ℕ
 abbrev pub BuiltIsRead : Type 0
 BuiltIsRead =
     (start : List ℕ) (cs : List Command) (b : Building) (out : List ℕ) → Adding start cs b out → closed out b .refusal ≡ refusal 0
-    → Holds start (record { byte0 = byteOf b; commands = cs }) (closed out b .building) (closedTo out b)
+    → Holds start (record { byte0 = byte0By b; commands = cs }) (closed out b .building) (closedTo out b)
 
 -- not closed, it is refused: 2 with nothing added, else 3
 abbrev pub OpenIsRefused : Type 0

@@ -11,7 +11,7 @@ ghost use Rattle.word.specs.Words.{putWords, longest};
 ghost use Rattle.message.specs.Limits.{limit};
 ghost use Rattle.message.specs.Header.{kindOf};
 ghost use Rattle.message.specs.Request.{addressIn, addressTop, commandWords};
-ghost use Rattle.initiator.specs.Building.{byteOf};
+ghost use Rattle.initiator.specs.Building.{byte0By};
 ghost use Rattle.initiator.specs.Asked.{countBy, commandBy};
 ghost use Rattle.initiator.specs.Build.{gives, opened, begun, usable, addFault, closeFault, grown, shut, lastSet, added, addedTo, closed, closedTo};
 use crate::asked;
@@ -136,7 +136,7 @@ fn put_command(out: &mut [u8], at: usize, h: u32, n: usize, address: u64, payloa
 
 // The record with one more command, of this count.
 fn grow(b: Building, byte0: u32, count: usize) -> Building
-    requires { ⌜ (byte0 ≡ byteOf b) × (count < 4096) × (b .words ≤ limit) × (b .answer ≤ limit) ⌝ }
+    requires { ⌜ (byte0 ≡ byte0By b) × (count < 4096) × (b .words ≤ limit) × (b .answer ≤ limit) ⌝ }
     ensures { λ r. ⌜ r ≡ grown b count ⌝ }
 {
     Building {
@@ -154,7 +154,7 @@ fn grow(b: Building, byte0: u32, count: usize) -> Building
 // Puts a command that nothing is wrong with behind the words so far.
 fn place(out: &mut [u8], b: Building, asked: Asked, payload: &[u32]) -> Building
     requires { ⌜ addFault (length (now out)) b asked (length (now payload)) ≡ 0 ⌝ }
-    ensures { λ r. ⌜ (r ≡ grown b (countBy (kindOf (byteOf b)) (asked .count) (length (now (payload .entry))))) × (now (out .exit) ≡ putWords (now (out .entry)) (b .words) (commandWords (byteOf b) false (commandBy (byteOf b) asked (now (payload .entry))))) ⌝ }
+    ensures { λ r. ⌜ (r ≡ grown b (countBy (kindOf (byte0By b)) (asked .count) (length (now (payload .entry))))) × (now (out .exit) ≡ putWords (now (out .entry)) (b .words) (commandWords (byte0By b) false (commandBy (byte0By b) asked (now (payload .entry))))) ⌝ }
 {
     let byte0 = building::byte0_of(b);
     let kind = header::kind_of(byte0);

@@ -2,7 +2,7 @@
 ghost use mathlib.Core.Path.{_≡_};
 ghost use Prim.Native.Nat.{_<_, _≤_};
 ghost use Rattle.message.specs.Limits.{limit};
-ghost use Rattle.initiator.specs.Building.{startOk, byteOf, freshOk, nopsOk, writesOk, readsOk, shapeOk, someOk, reachable};
+ghost use Rattle.initiator.specs.Building.{startOk, byte0By, freshOk, nopsOk, writesOk, readsOk, shapeOk, someOk, reachable};
 use message::header;
 use message::header::Kind;
 
@@ -33,7 +33,7 @@ pub(crate) fn start_ok(kind: u32, tag: u32) -> bool
 // Byte 0 of every header of the message.
 pub(crate) fn byte0_of(b: Building) -> u32
     requires { ⌜ b .tag < 16 ⌝ }
-    ensures { λ r. ⌜ (r ≡ byteOf b) × (r < 256) ⌝ }
+    ensures { λ r. ⌜ (r ≡ byte0By b) × (r < 256) ⌝ }
 {
     header::byte0_from(b.tag, header::kind_no(b.kind), b.wide, b.discovery)
 }

@@ -7,7 +7,7 @@ ghost use Rattle.word.specs.Words.{wordsOf};
 ghost use Rattle.message.specs.Limits.{limit, limitBytes};
 ghost use Rattle.message.specs.Header.{kindOf, countOf, bodyWords};
 ghost use Rattle.message.specs.Request.{read};
-ghost use Rattle.initiator.specs.Outcome.{refusedWith, badOf, spanOf, partOf, withItem, lookBeside, Ready, toldOf, answersTo, answerTo, countIn, endingIn, partIn, outcomeOf, ReadData};
+ghost use Rattle.initiator.specs.Outcome.{refusedWith, badOf, spanOf, partOf, withItem, lookBeside, Ready, toldOf, answersTo, judgedBy, countIn, endingIn, partIn, outcomeOf, ReadData};
 use crate::refusals;
 use message::answer;
 use message::answer::Look;
@@ -196,7 +196,7 @@ pub fn told(request: &[u8], answer: &[u8], k: usize) -> Outcome
 
 // How many commands were answered; 0 where the answer is refused.
 pub fn answered(request: &[u8], answer: &[u8]) -> usize
-    ensures { λ r. ⌜ r ≡ countIn (answerTo (read (now (request .entry))) (now (answer .entry))) ⌝ }
+    ensures { λ r. ⌜ r ≡ countIn (judgedBy (read (now (request .entry))) (now (answer .entry))) ⌝ }
 {
     let told = told(request, answer, 0);
     told.count
@@ -204,7 +204,7 @@ pub fn answered(request: &[u8], answer: &[u8]) -> usize
 
 // How command k ended, counted from 0; absent where the answer is refused or has no such command.
 pub fn ended(request: &[u8], answer: &[u8], k: usize) -> Ending
-    ensures { λ r. ⌜ r ≡ endingIn k (answerTo (read (now (request .entry))) (now (answer .entry))) ⌝ }
+    ensures { λ r. ⌜ r ≡ endingIn k (judgedBy (read (now (request .entry))) (now (answer .entry))) ⌝ }
 {
     let told = told(request, answer, k);
     let ending = told.ending;
@@ -213,7 +213,7 @@ pub fn ended(request: &[u8], answer: &[u8], k: usize) -> Ending
 
 // Where command k's read data stand in the answer; empty at 0 for anything but an answered OK read.
 pub fn read_span(request: &[u8], answer: &[u8], k: usize) -> Span
-    ensures { λ r. ⌜ r ≡ partIn (kindOf (getD (now (request .entry)) 0 0)) k (answerTo (read (now (request .entry))) (now (answer .entry))) ⌝ }
+    ensures { λ r. ⌜ r ≡ partIn (kindOf (getD (now (request .entry)) 0 0)) k (judgedBy (read (now (request .entry))) (now (answer .entry))) ⌝ }
     ensures inside { λ r. ⌜ (r .start ≤ r .end) × (r .end ≤ length (now (answer .entry))) ⌝ }
 {
     let told = told(request, answer, k);

@@ -21,7 +21,7 @@ use Rattle.message.proofs.Laws.Round.{address-long}
 use Rattle.message.proofs.Laws.Pieces.{address-none, address-one, address-two, top-none, top-one, top-two, command-pieces}
 use Rattle.initiator.specs.declared.building.Building.{Building}
 use Rattle.initiator.specs.declared.asked.Asked.{Asked}
-use Rattle.initiator.specs.Building.{byteOf}
+use Rattle.initiator.specs.Building.{byte0By}
 use Rattle.initiator.specs.Asked.{countBy, byte1By, addressSent, carriedBy, commandBy, enablesFit, addressFits, narrowOk, sizeBy, commandFault}
 use Rattle.initiator.specs.declared.build.Built.{Built}
 use Rattle.initiator.specs.Build.{gives, usable, addFault, closeFault, grown, shut, lastSet, added, addedTo, closed, closedTo}
@@ -33,7 +33,7 @@ unless-on ok n x e = rw e
 
 -- 21 and 22 passed, the command's own refusal is the call's
 pub add-open : (room : ℕ) (b : Building) (asked : Asked) (lent : ℕ) {byte0 count r : ℕ} {k : Kind} → usable room b ≡ true → b .closed ≡ false
-    → byte0 ≡ byteOf b → k ≡ kindOf byte0 → count ≡ countBy k (asked .count) lent → r ≡ commandFault byte0 (b .words) (b .answer) asked count
+    → byte0 ≡ byte0By b → k ≡ kindOf byte0 → count ≡ countBy k (asked .count) lent → r ≡ commandFault byte0 (b .words) (b .answer) asked count
     → r ≡ addFault room b asked lent
 unfolding addFault
 add-open room b asked lent u o e f g h = (rw (g, f, e) at h) ∙ unless-on (not (b .closed)) 22 _ (rw o) ∙ unless-on (usable room b) 21 _ u
@@ -89,44 +89,44 @@ carried-count Response count lent = refl
 -- a command that nothing is wrong with, from what the steps before its bytes are put ensure
 module _ (room : ℕ) (b : Building) (asked : Asked) (payload : List ℕ) (pre : addFault room b asked (length payload) ≡ 0) where
   abbrev counted : ℕ
-  counted = countBy (kindOf (byteOf b)) (asked .count) (length payload)
+  counted = countBy (kindOf (byte0By b)) (asked .count) (length payload)
 
   abbrev ok : Adds room b asked counted
   ok = adds room b asked (length payload) pre
 
-  pub placed-header : {byte0 count : ℕ} {k : Kind} → byte0 ≡ byteOf b → k ≡ kindOf byte0 → count ≡ countBy k (asked .count) (length payload)
+  pub placed-header : {byte0 count : ℕ} {k : Kind} → byte0 ≡ byte0By b → k ≡ kindOf byte0 → count ≡ countBy k (asked .count) (length payload)
       → (count < 4096) × (enablesFit (kindOf byte0) count (asked .first) (asked .last) ≡ true)
   placed-header e f g = rw (g, f, e) (ok .fits .twelve, ok .fits .enabled)
 
-  pub placed-address : {byte0 n a : ℕ} {k : Kind} → byte0 ≡ byteOf b → k ≡ kindOf byte0 → n ≡ addressWords byte0 → a ≡ addressSent k (asked .address)
+  pub placed-address : {byte0 n a : ℕ} {k : Kind} → byte0 ≡ byte0By b → k ≡ kindOf byte0 → n ≡ addressWords byte0 → a ≡ addressSent k (asked .address)
       → a < 18446744073709551616 → a < addressTop n
-  placed-address {byte0} {n} {a} e f g i h = rw (g, e) (address-top (kindOf (byteOf b)) (wideOf (byteOf b)) (asked .address) a (rw (f, e) at i) h (ok .fits .reaches))
+  placed-address {byte0} {n} {a} e f g i h = rw (g, e) (address-top (kindOf (byte0By b)) (wideOf (byte0By b)) (asked .address) a (rw (f, e) at i) h (ok .fits .reaches))
 
-  pub placed-sent : {byte0 sent : ℕ} {k : Kind} → byte0 ≡ byteOf b → k ≡ kindOf byte0 → sent ≡ dataWords k (length payload)
-      → length (take sent payload) ≡ dataWords (kindOf (byteOf b)) (length payload)
-  placed-sent e f g = rw (g, f, e) (length-take-le _ payload (data-le (kindOf (byteOf b)) (length payload)))
+  pub placed-sent : {byte0 sent : ℕ} {k : Kind} → byte0 ≡ byte0By b → k ≡ kindOf byte0 → sent ≡ dataWords k (length payload)
+      → length (take sent payload) ≡ dataWords (kindOf (byte0By b)) (length payload)
+  placed-sent e f g = rw (g, f, e) (length-take-le _ payload (data-le (kindOf (byte0By b)) (length payload)))
 
-  pub placed-room : {byte0 n sent : ℕ} {k : Kind} → byte0 ≡ byteOf b → k ≡ kindOf byte0 → n ≡ addressWords byte0 → sent ≡ dataWords k (length payload)
+  pub placed-room : {byte0 n sent : ℕ} {k : Kind} → byte0 ≡ byte0By b → k ≡ kindOf byte0 → n ≡ addressWords byte0 → sent ≡ dataWords k (length payload)
       → (length (take sent payload) ≤ longest) × (4 * (b .words + (1 + (n + length (take sent payload)))) ≤ room)
   unfolding sizeBy
   placed-room {byte0} {n} {sent} {k} e f g i =
       let l = placed-sent e f i in
-      let s : b .words + (1 + (addressWords (byteOf b) + dataWords (kindOf (byteOf b)) counted)) ≤ limit = ok .fits .short in
-      let d = carried-count (kindOf (byteOf b)) (asked .count) (length payload) in
-      let n' : n ≡ addressWords (byteOf b) = g ∙ ap addressWords e in
+      let s : b .words + (1 + (addressWords (byte0By b) + dataWords (kindOf (byte0By b)) counted)) ≤ limit = ok .fits .short in
+      let d = carried-count (kindOf (byte0By b)) (asked .count) (length payload) in
+      let n' : n ≡ addressWords (byte0By b) = g ∙ ap addressWords e in
       let r = ok .long in
       (omega arith, omega arith)
 
-  pub placed-bytes : (out : List ℕ) (at : ℕ) {byte0 h count n a sent : ℕ} {k : Kind} {m : List ℕ} → byte0 ≡ byteOf b → k ≡ kindOf byte0
+  pub placed-bytes : (out : List ℕ) (at : ℕ) {byte0 h count n a sent : ℕ} {k : Kind} {m : List ℕ} → byte0 ≡ byte0By b → k ≡ kindOf byte0
       → count ≡ countBy k (asked .count) (length payload)
       → h ≡ headerFrom byte0 (byte1By (kindOf byte0) (asked .first) (asked .last)) count false → n ≡ addressWords byte0 → sent ≡ dataWords k (length payload)
       → a ≡ addressSent k (asked .address) → m ≡ putWords out at (h ∷ (addressIn n a ++ take sent payload))
-      → m ≡ putWords out at (commandWords (byteOf b) false (commandBy (byteOf b) asked payload))
+      → m ≡ putWords out at (commandWords (byte0By b) false (commandBy (byte0By b) asked payload))
   unfolding commandBy
   placed-bytes out at e f g p q r t w =
-      rw (command-pieces (byteOf b) false (commandBy (byteOf b) asked payload), ← carried-is (kindOf (byteOf b)) payload) (rw (p, q, t, r, g, f, e) at w)
+      rw (command-pieces (byte0By b) false (commandBy (byte0By b) asked payload), ← carried-is (kindOf (byte0By b)) payload) (rw (p, q, t, r, g, f, e) at w)
 
-  pub placed-record : {byte0 count : ℕ} {k : Kind} {r : Building} → byte0 ≡ byteOf b → k ≡ kindOf byte0 → count ≡ countBy k (asked .count) (length payload)
+  pub placed-record : {byte0 count : ℕ} {k : Kind} {r : Building} → byte0 ≡ byte0By b → k ≡ kindOf byte0 → count ≡ countBy k (asked .count) (length payload)
       → r ≡ grown b count → r ≡ grown b counted
   placed-record e f g h = rw (g, f, e) at h
 
@@ -138,8 +138,8 @@ module _ (out : List ℕ) (b : Building) (asked : Asked) (payload : List ℕ) wh
   add-refused e z h = rw (eqb-off e z) ((rw e at h), refl)
 
   pub add-taken : {r : ℕ} {g : Built} {a : Building} {m : List ℕ} → r ≡ addFault (length out) b asked (length payload) → r ≡ 0
-      → a ≡ grown b (countBy (kindOf (byteOf b)) (asked .count) (length payload)) → g ≡ gives 0 a
-      → m ≡ putWords out (b .words) (commandWords (byteOf b) false (commandBy (byteOf b) asked payload))
+      → a ≡ grown b (countBy (kindOf (byte0By b)) (asked .count) (length payload)) → g ≡ gives 0 a
+      → m ≡ putWords out (b .words) (commandWords (byte0By b) false (commandBy (byte0By b) asked payload))
       → (g ≡ added out b asked payload) × (m ≡ addedTo out b asked payload)
   unfolding added addedTo
   add-taken e z f h w = rw (eqb-on e z) ((rw f at h), w)

@@ -17,7 +17,7 @@ use Rattle.message.specs.Discovery.{discoveryData, discoveryBytes}
 use Rattle.initiator.specs.declared.building.Building.{Building}
 use Rattle.initiator.specs.declared.asked.Asked.{Asked}
 use Rattle.initiator.specs.declared.build.Built.{Built}
-use Rattle.initiator.specs.Building.{startOk, byteOf, freshOk, nopsOk, someOk, reachable}
+use Rattle.initiator.specs.Building.{startOk, byte0By, freshOk, nopsOk, someOk, reachable}
 use Rattle.initiator.specs.Asked.{commandBy, countFits, sizeBy, replyBy, roomFits, commandFault}
 use Rattle.initiator.specs.Build.{gives, longOk, opened, begun, addFault, closeFault, grown, added, addedTo, closed}
 use Rattle.initiator.specs.Reach.{Lent}
@@ -47,11 +47,11 @@ module _ (out : List ℕ) (asked : Asked) (room : limitBytes ≤ length out) (le
   begun-is = rw long
 
   add-fault : addFault (length out) first asked 2 ≡ 0
-  unfolding addFault reachable startOk freshOk opened commandFault countFits roomFits sizeBy replyBy byteOf byte0From kindNo
+  unfolding addFault reachable startOk freshOk opened commandFault countFits roomFits sizeBy replyBy byte0By byte0From kindNo
   add-fault = rw long
 
   added-is : added out first asked discoveryData ≡ gives 0 second
-  unfolding added byteOf opened byte0From kindNo
+  unfolding added byte0By opened byte0From kindNo
   added-is = rw add-fault
 
   -- the same of the record as it comes
@@ -64,31 +64,31 @@ module _ (out : List ℕ) (asked : Asked) (room : limitBytes ≤ length out) (le
   added-second : discoveryAdded out asked ≡ second
   added-second = ap (λ (g : Built). g .building) added-first
 
-  goes : Adding out ([] ++ commandBy (byteOf (discoveryBegun out)) asked discoveryData ∷ []) (discoveryAdded out asked) (discoveryOut out asked)
+  goes : Adding out ([] ++ commandBy (byte0By (discoveryBegun out)) asked discoveryData ∷ []) (discoveryAdded out asked) (discoveryOut out asked)
   goes =
       adds (begins 0 0 false true (ap (λ (g : Built). g .refusal) begun-is)) asked discoveryData lent (ap (λ (g : Built). g .refusal) added-first)
 
   -- its output is as long as it was
-  out-is : discoveryOut out asked ≡ putWords out 0 (commandWords (byteOf first) false (commandBy (byteOf first) asked discoveryData))
+  out-is : discoveryOut out asked ≡ putWords out 0 (commandWords (byte0By first) false (commandBy (byte0By first) asked discoveryData))
   unfolding addedTo opened
   out-is = rw (begun-first, add-fault)
 
   out-long : limitBytes ≤ length (discoveryOut out asked)
-  unfolding commandWords commandBy byteOf byte0From kindNo addressIn opened
+  unfolding commandWords commandBy byte0By byte0From kindNo addressIn opened
   out-long =
-      let n = length-words out 0 (commandWords (byteOf first) false (commandBy (byteOf first) asked discoveryData)) (omega arith) in
+      let n = length-words out 0 (commandWords (byte0By first) false (commandBy (byte0By first) asked discoveryData)) (omega arith) in
       rw out-is (omega arith)
 
   close-fault : (m : ℕ) → longOk m ≡ true → closeFault m second ≡ 0
-  unfolding closeFault reachable startOk someOk nopsOk grown sizeBy replyBy opened byteOf byte0From kindNo
+  unfolding closeFault reachable startOk someOk nopsOk grown sizeBy replyBy opened byte0By byte0From kindNo
   close-fault m h = rw h
 
   closed-fine : closed (discoveryOut out asked) (discoveryAdded out asked) .refusal ≡ refusal 0
   unfolding closed
   closed-fine = rw (added-second, close-fault (length (discoveryOut out asked)) (le-leb _ _ out-long))
 
-  request-is : written (record { byte0 = byteOf (discoveryAdded out asked); commands = [] ++ commandBy (byteOf (discoveryBegun out)) asked discoveryData ∷ [] }) ≡ discoveryBytes
-  unfolding commandBy byteOf grown opened kindNo byte0From discoveryByte
+  request-is : written (record { byte0 = byte0By (discoveryAdded out asked); commands = [] ++ commandBy (byte0By (discoveryBegun out)) asked discoveryData ∷ [] }) ≡ discoveryBytes
+  unfolding commandBy byte0By grown opened kindNo byte0From discoveryByte
   request-is = rw (added-second, begun-first) same-discovery
 
 pub discovery-is-built : DiscoveryIsBuilt

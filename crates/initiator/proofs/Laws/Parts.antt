@@ -21,7 +21,7 @@ use Rattle.message.specs.Answer.{Answered, codeOf, answerByte, judge, answeredW
 use Rattle.message.proofs.Laws.Answering.{answered-is, answer-more, encoded-is}
 use Rattle.message.proofs.Laws.Judged.{encode-judged}
 use Rattle.initiator.specs.declared.outcome.Span.{Span}
-use Rattle.initiator.specs.Outcome.{answerTo, empty, spanOf, partOf, partAt, partIn, cut, dataOf, dataAt, dataIn}
+use Rattle.initiator.specs.Outcome.{judgedBy, empty, spanOf, partOf, partAt, partIn, cut, dataOf, dataAt, dataIn}
 
 -- a run of words in the middle of bytes
 middle : (p s r : List ℕ) (a n : ℕ) → length p ≡ a → length s ≡ n → take (4 * (a + n) - 4 * a) (drop (4 * a) (bytesOf (p ++ (s ++ r)))) ≡ bytesOf s
@@ -113,8 +113,8 @@ module _ (answer : List ℕ) (kind : Kind) (k : ℕ) (b : Bytes answer) where
       let o = judged-part r answer kind k items b e in
       record { ordered = part-inside kind 0 k 0 items .0; inside = o .0; words = o .1 }
 
-  pub part-holds : (p : Reading Request) → Holds (answerTo p answer)
-  unfolding answerTo
+  pub part-holds : (p : Reading Request) → Holds (judgedBy p answer)
+  unfolding judgedBy
   part-holds (Wrong r) = none-holds _
   part-holds (Means r) = go (discoveryOf (r .byte0))
     where

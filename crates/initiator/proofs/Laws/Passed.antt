@@ -14,7 +14,7 @@ use Rattle.message.specs.Walk.{refusal, countOk, patternOk}
 use Rattle.message.proofs.Laws.Faults.{passed}
 use Rattle.initiator.specs.declared.building.Building.{Building}
 use Rattle.initiator.specs.declared.asked.Asked.{Asked}
-use Rattle.initiator.specs.Building.{startOk, byteOf, freshOk, shapeOk, someOk, reachable}
+use Rattle.initiator.specs.Building.{startOk, byte0By, freshOk, shapeOk, someOk, reachable}
 use Rattle.initiator.specs.Asked.{countBy, countFits, fieldsOk, enablesFit, addressFits, sizeBy, replyBy, roomFits, commandFault}
 use Rattle.initiator.specs.Build.{longOk, usable, addFault, closeFault}
 
@@ -41,7 +41,7 @@ pub record Some (b : Building) : Type 0 where
   pub answered : 1 ≤ b .answer
   pub answer : b .answer ≤ limit
   pub last : b .last < b .words
-  pub shape : shapeOk (kindOf (byteOf b)) (addressWords (byteOf b)) (b .words) (b .last) (b .answer) ≡ true
+  pub shape : shapeOk (kindOf (byte0By b)) (addressWords (byte0By b)) (b .words) (b .last) (b .answer) ≡ true
 
 pub some-is : (b : Building) → someOk b ≡ true → Some b
 unfolding someOk
@@ -113,10 +113,10 @@ pub record Adds (room : ℕ) (b : Building) (asked : Asked) (count : ℕ) : Type
   pub reached : reachable b ≡ true
   pub bounds : Bounded b
   pub opens : b .closed ≡ false
-  pub fits : Fitting (byteOf b) (b .words) (b .answer) asked count
+  pub fits : Fitting (byte0By b) (b .words) (b .answer) asked count
 
 pub adds : (room : ℕ) (b : Building) (asked : Asked) (lent : ℕ) → addFault room b asked lent ≡ 0
-    → Adds room b asked (countBy (kindOf (byteOf b)) (asked .count) lent)
+    → Adds room b asked (countBy (kindOf (byte0By b)) (asked .count) lent)
 unfolding addFault
 adds room b asked lent e =
     let t1 = passed (usable room b) 21 _ (omega arith) e in

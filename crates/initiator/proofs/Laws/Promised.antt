@@ -22,7 +22,7 @@ use Rattle.message.proofs.Laws.Answers.{answer-tag, answer-discovery}
 use Rattle.message.proofs.Laws.Looking.{Some}
 use Rattle.initiator.specs.declared.sender.Sender.{Sender}
 use Rattle.initiator.specs.declared.sender.Moved.{Moved}
-use Rattle.initiator.specs.Outcome.{answerTo}
+use Rattle.initiator.specs.Outcome.{judgedBy}
 use Rattle.initiator.specs.Sender.{offerFault, sendFault, offerOf, takenBy, takeOf}
 use Rattle.initiator.specs.Promises.{KeepsRefused, Accepted, AcceptedIs, Alone}
 use Rattle.initiator.proofs.Laws.Sending.{answer-some}
@@ -45,12 +45,12 @@ module _ (s : Sender) (message answer : List ℕ) where
   unfolding takeOf
   take-keeps z = go (eqb (sendFault s message) 0) z
     where
-      go : (b : Bool) → KeepsRefused s (cond b (takenBy s (answerTo (read message) answer)) (record { refusal = refusal (sendFault s message); sender = s }))
-      go true z = taken-keeps s (answerTo (read message) answer) z
+      go : (b : Bool) → KeepsRefused s (cond b (takenBy s (judgedBy (read message) answer)) (record { refusal = refusal (sendFault s message); sender = s }))
+      go true z = taken-keeps s (judgedBy (read message) answer) z
       go false z = refl
 
   -- past the sender's own refusals, the answer decides
-  pub take-judged : sendFault s message ≡ 0 → takeOf s message answer ≡ takenBy s (answerTo (read message) answer)
+  pub take-judged : sendFault s message ≡ 0 → takeOf s message answer ≡ takenBy s (judgedBy (read message) answer)
   unfolding takeOf
   take-judged e = rw (eq-eqb _ _ e)
 
@@ -58,13 +58,13 @@ module _ (s : Sender) (message answer : List ℕ) where
   record Let : Type 0 where
     own : sendFault s message ≡ 0
     items : List Answered
-    told : answerTo (read message) answer ≡ Means items
+    told : judgedBy (read message) answer ≡ Means items
 
   let-by : takeOf s message answer .refusal .number ≡ 0 → Let
   unfolding takeOf
-  let-by z = go (eqb (sendFault s message) 0) refl (answerTo (read message) answer) refl z
+  let-by z = go (eqb (sendFault s message) 0) refl (judgedBy (read message) answer) refl z
     where
-      go : (b : Bool) → eqb (sendFault s message) 0 ≡ b → (p : Reading (List Answered)) → answerTo (read message) answer ≡ p
+      go : (b : Bool) → eqb (sendFault s message) 0 ≡ b → (p : Reading (List Answered)) → judgedBy (read message) answer ≡ p
           → cond {A = Moved} b (takenBy s p) (record { refusal = refusal (sendFault s message); sender = s }) .refusal .number ≡ 0 → Let
       go false e p q z = absurd (eqb-false _ _ e z)
       go true e (Wrong r) q z = let t : 0 < r .number = rw q at (answer-some (read message) answer) in absurd (omega arith)
@@ -77,8 +77,8 @@ record Heard (p : Reading Request) (answer : List ℕ) (items : List Answered) :
   plain : discoveryOf (request .byte0) ≡ false
   judged : judge request answer ≡ Means items
 
-heard : (p : Reading Request) (answer : List ℕ) (items : List Answered) → answerTo p answer ≡ Means items → Heard p answer items
-unfolding answerTo
+heard : (p : Reading Request) (answer : List ℕ) (items : List Answered) → judgedBy p answer ≡ Means items → Heard p answer items
+unfolding judgedBy
 heard (Wrong r) answer items e = no-mean e
 heard (Means r) answer items e = go (discoveryOf (r .byte0)) refl e
   where
@@ -115,4 +115,4 @@ taken-refusal s t (Wrong r) = refl
 taken-refusal s t (Means items) = refl
 
 pub alone : (s t : Sender) (message answer : List ℕ) → Alone s t message answer
-alone s t message answer e f = rw (take-judged s message answer e, take-judged t message answer f) (taken-refusal s t (answerTo (read message) answer))
+alone s t message answer e f = rw (take-judged s message answer e, take-judged t message answer f) (taken-refusal s t (judgedBy (read message) answer))

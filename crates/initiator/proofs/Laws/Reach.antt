@@ -19,7 +19,7 @@ use Rattle.message.proofs.Laws.Pieces.{wholeLast, some-pattern}
 use Rattle.initiator.specs.declared.building.Building.{Building}
 use Rattle.initiator.specs.declared.asked.Asked.{Asked}
 use Rattle.initiator.specs.declared.build.Built.{Built}
-use Rattle.initiator.specs.Building.{startOk, byteOf, freshOk, someOk, reachable}
+use Rattle.initiator.specs.Building.{startOk, byte0By, freshOk, someOk, reachable}
 use Rattle.initiator.specs.Asked.{countBy, countFits, fieldsOk, enablesFit, addressFits, narrowOk, sizeBy, replyBy, roomFits, commandFault}
 use Rattle.initiator.specs.Build.{gives, longOk, opened, begun, addFault, closeFault, grown, shut, added, closed}
 use Rattle.initiator.specs.Reach.{Reached, begins, adds, closes, ReachedExactly}
@@ -29,7 +29,7 @@ use Rattle.initiator.proofs.Laws.Shapes.{size, reply, Allowed, Steps, s
 
 -- a record's numbers, in the words of the formula
 abbrev Numbers : Building → Type 0
-Numbers b = Open (kindOf (byteOf b)) (wideOf (byteOf b)) (b .words) (b .last) (b .answer)
+Numbers b = Open (kindOf (byte0By b)) (wideOf (byte0By b)) (b .words) (b .last) (b .answer)
 
 open-of : (k : Kind) (wide : Bool) (w l n : ℕ) → (w ≡ 0 → None l n) → ((w ≡ 0 → ⊥) → Some k wide w l n) → Open k wide w l n
 open-of k wide zero l n f g = f refl
@@ -43,30 +43,30 @@ fresh-none b e z =
     let v = both (eqb (b .last) 0) (eqb (b .answer) 0) (u .0) in
     (record { first = eqb-true _ _ (v .0); nothing = eqb-true _ _ (v .1) }, not-true _ (u .1))
 
-numbers-some : (b : Building) → passed.Some b → Some (kindOf (byteOf b)) (wideOf (byteOf b)) (b .words) (b .last) (b .answer)
+numbers-some : (b : Building) → passed.Some b → Some (kindOf (byte0By b)) (wideOf (byte0By b)) (b .words) (b .last) (b .answer)
 numbers-some b s =
     record {
       most = s .words;
       one = s .answered;
       few = s .answer;
       less = s .last;
-      shape = ok-shape (kindOf (byteOf b)) (wideOf (byteOf b)) (b .words) (b .last) (b .answer) (s .shape) (s .answered) (s .last) (s .words);
+      shape = ok-shape (kindOf (byte0By b)) (wideOf (byte0By b)) (b .words) (b .last) (b .answer) (s .shape) (s .answered) (s .last) (s .words);
     }
 
 numbers : (b : Building) → reachable b ≡ true → Numbers b
 numbers b e =
-    open-of (kindOf (byteOf b)) (wideOf (byteOf b)) (b .words) (b .last) (b .answer) (λ z. fresh-none b e z .0) (λ z. numbers-some b (reached-some b e z))
+    open-of (kindOf (byte0By b)) (wideOf (byte0By b)) (b .words) (b .last) (b .answer) (λ z. fresh-none b e z .0) (λ z. numbers-some b (reached-some b e z))
 
 started : (b : Building) → reachable b ≡ true → startOk (b .kind) (b .tag) ≡ true
 unfolding reachable
 started b e = both _ _ e .0
 
 -- a record whose numbers are those of some commands
-some-reachable : (b : Building) → startOk (b .kind) (b .tag) ≡ true → Some (kindOf (byteOf b)) (wideOf (byteOf b)) (b .words) (b .last) (b .answer) → reachable b ≡ true
+some-reachable : (b : Building) → startOk (b .kind) (b .tag) ≡ true → Some (kindOf (byte0By b)) (wideOf (byte0By b)) (b .words) (b .last) (b .answer) → reachable b ≡ true
 unfolding reachable someOk
 some-reachable b h s =
     let z : eqb (b .words) 0 ≡ false = ne-eqb (b .words) 0 (omega (arith, s .less)) in
-    rw (h, z, le-leb _ _ (s .most), le-leb _ _ (s .one), le-leb _ _ (s .few), lt-ltb _ _ (s .less), shape-ok (kindOf (byteOf b)) (wideOf (byteOf b)) _ _ _ s)
+    rw (h, z, le-leb _ _ (s .most), le-leb _ _ (s .one), le-leb _ _ (s .few), lt-ltb _ _ (s .less), shape-ok (kindOf (byte0By b)) (wideOf (byte0By b)) _ _ _ s)
 
 -- what the calls make of a record that the formula holds of
 counted : (k : Kind) (count : ℕ) → countOk k count ≡ true → Allowed k count
@@ -76,14 +76,14 @@ counted Read count e = leb-true _ _ e
 counted Response count e = absurd (false≢true e)
 
 grown-reachable : (room : ℕ) (b : Building) (asked : Asked) (count : ℕ) → Adds room b asked count → reachable (grown b count) ≡ true
-unfolding grown byteOf sizeBy replyBy
+unfolding grown byte0By sizeBy replyBy
 grown-reachable room b asked count a =
     some-reachable (grown b count) (started b (a .reached))
-    (on-some (kindOf (byteOf b)) (wideOf (byteOf b)) (b .words) (b .last) (b .answer) count (numbers b (a .reached))
-    (counted (kindOf (byteOf b)) count (a .fits .counted)) (a .fits .short) (a .fits .few))
+    (on-some (kindOf (byte0By b)) (wideOf (byte0By b)) (b .words) (b .last) (b .answer) count (numbers b (a .reached))
+    (counted (kindOf (byte0By b)) count (a .fits .counted)) (a .fits .short) (a .fits .few))
 
 shut-reachable : (room : ℕ) (b : Building) → Closes room b → reachable (shut b) ≡ true
-unfolding shut byteOf
+unfolding shut byte0By
 shut-reachable room b c = some-reachable (shut b) (started b (c .reached)) (numbers-some b (c .some))
 
 -- each call keeps it
@@ -102,7 +102,7 @@ unfolding added
 added-reachable out b asked payload h = go (eqb (addFault (length out) b asked (length payload)) 0) refl
   where
     go : (t : Bool) → eqb (addFault (length out) b asked (length payload)) 0 ≡ t
-        → reachable (cond t (gives 0 (grown b (countBy (kindOf (byteOf b)) (asked .count) (length payload)))) (gives (addFault (length out) b asked (length payload)) b) .building) ≡ true
+        → reachable (cond t (gives 0 (grown b (countBy (kindOf (byte0By b)) (asked .count) (length payload)))) (gives (addFault (length out) b asked (length payload)) b) .building) ≡ true
     go true z = grown-reachable (length out) b asked _ (passed.adds (length out) b asked (length payload) (eqb-true _ _ z))
     go false z = h
 
@@ -198,7 +198,7 @@ module _ (out : List ℕ) (long : longOk (length out) ≡ true) (kind tag : ℕ)
   state w l n z = record { kind = kind; tag = tag; wide = wide; discovery = discovery; words = w; last = l; answer = n; closed = z }
 
   abbrev byte : ℕ
-  byte = byteOf (state 0 0 0 false)
+  byte = byte0By (state 0 0 0 false)
 
   first-state : Reached (state 0 0 0 false)
   unfolding begun opened
@@ -208,7 +208,7 @@ module _ (out : List ℕ) (long : longOk (length out) ≡ true) (kind tag : ℕ)
 
   next-state : (w l n count : ℕ) → Reached (state w l n false) → Allowed (kindOf byte) count → w + size (kindOf byte) (wideOf byte) count ≤ limit
       → n + reply (kindOf byte) count ≤ limit → Reached (state (w + size (kindOf byte) (wideOf byte) count) w (n + reply (kindOf byte) count) false)
-  unfolding added addFault grown byteOf sizeBy replyBy
+  unfolding added addFault grown byte0By sizeBy replyBy
   next-state w l n count r d p q =
       let s : Building = state w l n false in
       let c = plain-count (kindOf byte) count in
@@ -234,10 +234,10 @@ module _ (out : List ℕ) (long : longOk (length out) ≡ true) (kind tag : ℕ)
   shut-or (suc w) l n true h r = last-state (suc w) l n (recalled r) (omega arith)
 
 called : (b : Building) → reachable b ≡ true → Reached b
-unfolding byteOf
+unfolding byte0By
 called b e =
     shut-or (blank limitBytes) refl (b .kind) (b .tag) (b .wide) (b .discovery) (started b e) (b .words) (b .last) (b .answer) (b .closed) (λ z. fresh-none b e z .1)
-    (back (kindOf (byteOf b)) (wideOf (byteOf b)) (b .words) (b .last) (b .answer) (numbers b e))
+    (back (kindOf (byte0By b)) (wideOf (byte0By b)) (b .words) (b .last) (b .answer) (numbers b e))
 
 -- 21's formula holds exactly of the records that some sequence of calls gives
 pub reached-exactly : ReachedExactly

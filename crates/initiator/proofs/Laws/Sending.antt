@@ -18,7 +18,7 @@ use Rattle.message.proofs.Laws.Looking.{Some, judge-some}
 use Rattle.initiator.specs.declared.sender.Sender.{Sender}
 use Rattle.initiator.specs.declared.sender.Moved.{Moved}
 use Rattle.initiator.specs.declared.outcome.Outcome.{Outcome}
-use Rattle.initiator.specs.Outcome.{answerTo, toldOf, outcomeOf, refusalIn}
+use Rattle.initiator.specs.Outcome.{judgedBy, toldOf, outcomeOf, refusalIn}
 use Rattle.initiator.specs.Sender.{asksAs, sendFault, takenBy}
 
 -- 31 by its clauses
@@ -45,8 +45,8 @@ unfolding sendFault
 send-next s message e = ltb-true _ _ (passed (ltb (s .next) 16) 37 _ (omega arith) e .0)
 
 -- an answer is taken exactly if it tells no refusal
-pub answer-some : (p : Reading Request) (answer : List ℕ) → Some (answerTo p answer)
-unfolding answerTo
+pub answer-some : (p : Reading Request) (answer : List ℕ) → Some (judgedBy p answer)
+unfolding judgedBy
 answer-some (Wrong r) answer = omega arith
 answer-some (Means r) answer = go (discoveryOf (r .byte0))
   where
@@ -65,15 +65,15 @@ module _ (s : Sender) where
   taken-right (Means items) h z = refl
 
   module _ (message answer : List ℕ) where
-    refusal-is : outcomeOf message answer 0 .refusal ≡ refusalIn (answerTo (read message) answer)
+    refusal-is : outcomeOf message answer 0 .refusal ≡ refusalIn (judgedBy (read message) answer)
     unfolding outcomeOf toldOf
     refusal-is = refl
 
-    pub take-wrong : {r : Refusal} → r ≡ outcomeOf message answer 0 .refusal → (r .number ≡ 0 → ⊥) → record { refusal = r; sender = s } ≡ takenBy s (answerTo (read message) answer)
+    pub take-wrong : {r : Refusal} → r ≡ outcomeOf message answer 0 .refusal → (r .number ≡ 0 → ⊥) → record { refusal = r; sender = s } ≡ takenBy s (judgedBy (read message) answer)
     take-wrong e z =
-        rw (e, refusal-is) (taken-wrong (answerTo (read message) answer) (answer-some (read message) answer) (λ q. z (ap (λ (x : Refusal). x .number) (e ∙ refusal-is) ∙ q)))
+        rw (e, refusal-is) (taken-wrong (judgedBy (read message) answer) (answer-some (read message) answer) (λ q. z (ap (λ (x : Refusal). x .number) (e ∙ refusal-is) ∙ q)))
 
     pub take-right : {r : Refusal} → r ≡ outcomeOf message answer 0 .refusal → r .number ≡ 0
-        → record { refusal = r; sender = record { next = (s .next + 1) % 16; waits = false } } ≡ takenBy s (answerTo (read message) answer)
+        → record { refusal = r; sender = record { next = (s .next + 1) % 16; waits = false } } ≡ takenBy s (judgedBy (read message) answer)
     take-right e z =
-        rw (e, refusal-is) (taken-right (answerTo (read message) answer) (answer-some (read message) answer) (sym (ap (λ (x : Refusal). x .number) (e ∙ refusal-is)) ∙ z))
+        rw (e, refusal-is) (taken-right (judgedBy (read message) answer) (answer-some (read message) answer) (sym (ap (λ (x : Refusal). x .number) (e ∙ refusal-is)) ∙ z))

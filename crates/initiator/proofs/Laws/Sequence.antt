@@ -22,7 +22,7 @@ use Rattle.message.proofs.Laws.Exactly.{counted-asks}
 use Rattle.message.proofs.Laws.Pieces.{header-last, header-low, command-pieces, command-long, written-is, open-more, request-more, replies-more, all-more, all-none, none-more, open-none, replies-none, open-refused}
 use Rattle.initiator.specs.declared.building.Building.{Building}
 use Rattle.initiator.specs.declared.asked.Asked.{Asked}
-use Rattle.initiator.specs.Building.{startOk, byteOf}
+use Rattle.initiator.specs.Building.{startOk, byte0By}
 use Rattle.initiator.specs.Asked.{countBy, byte1By, addressSent, carriedBy, commandBy, enablesFit, sizeBy, replyBy}
 use Rattle.initiator.specs.Build.{gives, longOk, opened, begun, addFault, closeFault, grown, shut, lastSet, added, addedTo, closed, closedTo}
 use Rattle.initiator.specs.Reach.{Lent}
@@ -34,15 +34,15 @@ use Rattle.initiator.proofs.Laws.Calls.{address-top}
 -- what an add that was not refused gives
 record Took (out : List ℕ) (b : Building) (asked : Asked) (payload : List ℕ) : Type 0 where
   fault : addFault (length out) b asked (length payload) ≡ 0
-  building : added out b asked payload .building ≡ grown b (countBy (kindOf (byteOf b)) (asked .count) (length payload))
-  output : addedTo out b asked payload ≡ putWords out (b .words) (commandWords (byteOf b) false (commandBy (byteOf b) asked payload))
+  building : added out b asked payload .building ≡ grown b (countBy (kindOf (byte0By b)) (asked .count) (length payload))
+  output : addedTo out b asked payload ≡ putWords out (b .words) (commandWords (byte0By b) false (commandBy (byte0By b) asked payload))
 
 took : (out : List ℕ) (b : Building) (asked : Asked) (payload : List ℕ) → added out b asked payload .refusal ≡ refusal 0 → Took out b asked payload
 unfolding added addedTo
 took out b asked payload e = go (eqb (addFault (length out) b asked (length payload)) 0) refl e
   where
     go : (t : Bool) → eqb (addFault (length out) b asked (length payload)) 0 ≡ t
-        → cond t (gives 0 (grown b (countBy (kindOf (byteOf b)) (asked .count) (length payload)))) (gives (addFault (length out) b asked (length payload)) b) .refusal ≡ refusal 0
+        → cond t (gives 0 (grown b (countBy (kindOf (byte0By b)) (asked .count) (length payload)))) (gives (addFault (length out) b asked (length payload)) b) .refusal ≡ refusal 0
         → Took out b asked payload
     go true z e = record { fault = eqb-true _ _ z; building = rw z; output = rw z }
     go false z e = absurd (passed.off-zero z (unrefused e))
@@ -96,12 +96,12 @@ command-fits byte0 w n asked payload l f =
 record Stands (start : List ℕ) (cs : List Command) (b : Building) (out : List ℕ) : Type 0 where
   long : limitBytes ≤ length start
   tag : b .tag < 16
-  all : All (FitsCommand (byteOf b)) cs
-  words : b .words ≡ length (openWords (byteOf b) cs)
-  answer : b .answer ≡ replies (byteOf b) cs
+  all : All (FitsCommand (byte0By b)) cs
+  words : b .words ≡ length (openWords (byte0By b) cs)
+  answer : b .answer ≡ replies (byte0By b) cs
   most : b .words ≤ limit
   few : b .answer ≤ limit
-  is : out ≡ putWords start 0 (openWords (byteOf b) cs)
+  is : out ≡ putWords start 0 (openWords (byte0By b) cs)
 
 stands-first : (start : List ℕ) (kind tag : ℕ) (wide discovery : Bool) → begun (length start) kind tag wide discovery .refusal ≡ refusal 0
     → Stands start [] (begun (length start) kind tag wide discovery .building) start
@@ -116,12 +116,12 @@ stands-first start kind tag wide discovery e = go (longOk (length start) && star
         record {
           long = leb-true _ _ (t .0);
           tag = start-tag kind tag (t .1) .1;
-          all = all-none (FitsCommand (byteOf b));
-          words = ap length (sym (open-none (byteOf b)));
-          answer = sym (replies-none (byteOf b));
+          all = all-none (FitsCommand (byte0By b));
+          words = ap length (sym (open-none (byte0By b)));
+          answer = sym (replies-none (byte0By b));
           most = omega arith;
           few = omega arith;
-          is = rw (open-none (byteOf b)) (sym (words-none start 0));
+          is = rw (open-none (byte0By b)) (sym (words-none start 0));
         }
     go false z e = absurd (omega (arith, unrefused e))
 
@@ -140,12 +140,12 @@ shuts out b e = go (eqb (closeFault (length out) b) 0) refl e
     go false z e = absurd (passed.off-zero z (unrefused e))
 
 -- byte 0 is the same throughout, and a byte
-grown-byte : (b : Building) (count : ℕ) → byteOf (grown b count) ≡ byteOf b
-unfolding byteOf grown
+grown-byte : (b : Building) (count : ℕ) → byte0By (grown b count) ≡ byte0By b
+unfolding byte0By grown
 grown-byte b count = refl
 
-tag-byte : (b : Building) → b .tag < 16 → byteOf b < 256
-unfolding byteOf
+tag-byte : (b : Building) → b .tag < 16 → byte0By b < 256
+unfolding byte0By
 tag-byte b h = byte0-lt (b .tag) _ (b .wide) (b .discovery) h
 
 -- LAST set in a command that was put
@@ -163,7 +163,7 @@ last-put out at byte0 c hb f room =
 module _ {start : List ℕ} {cs : List Command} {b : Building} {out : List ℕ} (s : Stands start cs b out)
     (asked : Asked) (payload : List ℕ) (l : Lent asked payload) (e : added out b asked payload .refusal ≡ refusal 0) where
   abbrev byte0 : ℕ
-  byte0 = byteOf b
+  byte0 = byte0By b
 
   abbrev c : Command
   c = commandBy byte0 asked payload
@@ -204,7 +204,7 @@ module _ {start : List ℕ} {cs : List Command} {b : Building} {out : List ℕ} 
   more-answer = omega (arith, s .answer, replies-more byte0 cs c)
 
   stands-more : Stands start cs' (added out b asked payload .building) (addedTo out b asked payload)
-  unfolding grown byteOf
+  unfolding grown byte0By
   stands-more =
       rw (t .building, t .output)
       (record {
@@ -245,14 +245,14 @@ module _ {start : List ℕ} {cs : List Command} {b : Building} {out : List ℕ} 
 
   -- closed, it is there
   made-holds : (b₁ : Building) (out₁ : List ℕ) → b₁ ≡ grown b count → out₁ ≡ putWords out (b .words) (commandWords byte0 false c) → closed out₁ b₁ .refusal ≡ refusal 0
-      → Holds start (record { byte0 = byteOf b₁; commands = cs' }) (closed out₁ b₁ .building) (closedTo out₁ b₁)
+      → Holds start (record { byte0 = byte0By b₁; commands = cs' }) (closed out₁ b₁ .building) (closedTo out₁ b₁)
   unfolding grown shut
   made-holds b₁ out₁ p q z =
       let k = shuts out₁ b₁ z in
       let w : closed out₁ b₁ .building .words ≡ length (requestWords byte0 cs') = rw (k .building, p) (sym made-words) in
       let o : closedTo out₁ b₁ ≡ putWords start 0 (requestWords byte0 cs') = k .output ∙ rw (q, p) made-bytes in
       let f : sent (closed out₁ b₁ .building) (closedTo out₁ b₁) ≡ written made = rw (w, o) (words-front start (requestWords byte0 cs') ∙ written-is byte0 cs') in
-      rw (ap byteOf p ∙ grown-byte b count)
+      rw (ap byte0By p ∙ grown-byte b count)
       (record {
         bytes = f;
         accepted = rw f (read-written made made-fits);
@@ -265,20 +265,20 @@ stands {start} (begins kind tag wide discovery e) = stands-first start kind tag 
 stands (adds s asked payload l e) = stands-more (stands s) asked payload l e
 
 -- not closed: 2 with nothing added, else 3
-open-read : {start : List ℕ} {cs : List Command} {b : Building} {out : List ℕ} → Stands start cs b out → sent b out ≡ bytesOf (openWords (byteOf b) cs)
-open-read {start} {cs} {b} s = rw (s .is) (ap (λ (n : ℕ). take (4 * n) (putWords start 0 (openWords (byteOf b) cs))) (s .words) ∙ words-front start (openWords (byteOf b) cs))
+open-read : {start : List ℕ} {cs : List Command} {b : Building} {out : List ℕ} → Stands start cs b out → sent b out ≡ bytesOf (openWords (byte0By b) cs)
+open-read {start} {cs} {b} s = rw (s .is) (ap (λ (n : ℕ). take (4 * n) (putWords start 0 (openWords (byte0By b) cs))) (s .words) ∙ words-front start (openWords (byte0By b) cs))
 
 pub open-is-refused : OpenIsRefused
 open-is-refused start cs b out go =
     let s = stands go in
-    rw (open-read s) (open-refused (byteOf b) (tag-byte b (s .tag)) cs (s .all) (omega (arith, s .words, s .most)))
+    rw (open-read s) (open-refused (byte0By b) (tag-byte b (s .tag)) cs (s .all) (omega (arith, s .words, s .most)))
 
 -- closed: what is built is what is read
 pub built-is-read : BuiltIsRead
 built-is-read start cs b out (begins kind tag wide discovery e) z =
     let s = stands-first start kind tag wide discovery e in
     let k = passed.closes (length start) b (shuts start b z .fault) in
-    absurd (omega (arith, k .some .last, s .words, ap length (open-none (byteOf b))))
+    absurd (omega (arith, k .some .last, s .words, ap length (open-none (byte0By b))))
 built-is-read start cs b out (adds go asked payload l e) z =
     let t = took _ _ asked payload e in
     made-holds (stands go) asked payload l e b out (t .building) (t .output) z

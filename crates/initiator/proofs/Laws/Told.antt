@@ -13,12 +13,12 @@ use Rattle.message.specs.Answer.{answerByte, judge}
 use Rattle.message.proofs.Laws.Going.{read-first}
 use Rattle.message.proofs.Laws.Looking.{judge-long, judge-whole}
 use Rattle.message.proofs.Laws.Judged.{other-byte}
-use Rattle.initiator.specs.Outcome.{answerTo, refusedWith, toldOf, outcomeOf, Ready, answersTo}
+use Rattle.initiator.specs.Outcome.{judgedBy, refusedWith, toldOf, outcomeOf, Ready, answersTo}
 
 module _ (request answer : List ℕ) (k : ℕ) where
   -- 31: the request would be refused
   pub told-wrong : (r : Refusal) → read request ≡ Wrong r → refusedWith (refusal 31) ≡ outcomeOf request answer k
-  unfolding outcomeOf answerTo toldOf
+  unfolding outcomeOf judgedBy toldOf
   told-wrong r e = rw e
 
   module _ (r : Request) (is : read request ≡ Means r) (byte0 : ℕ) (first : byte0 ≡ getD request 0 0) where
@@ -30,13 +30,13 @@ module _ (request answer : List ℕ) (k : ℕ) where
 
     -- 31: the discovery bit
     pub told-discovery : discoveryOf byte0 ≡ true → refusedWith (refusal 31) ≡ outcomeOf request answer k
-    unfolding outcomeOf answerTo toldOf
+    unfolding outcomeOf judgedBy toldOf
     told-discovery d = rw (is, ← byte-is, d)
 
     module _ (plain : discoveryOf byte0 ≡ false) where
       -- past 31
       judged : outcomeOf request answer k ≡ toldOf (kindOf byte0) k (judge r answer)
-      unfolding outcomeOf answerTo
+      unfolding outcomeOf judgedBy
       judged = rw (is, ← first, ← byte-is, plain)
 
       -- 32

@@ -1,6 +1,6 @@
 -- `initiator::building::byte0_of` meets its contract: byte 0 from begin's four. Assumes nothing.
 use mathlib.Core.Path.{_∙_}
-use Rattle.initiator.specs.Building.{byteOf}
+use Rattle.initiator.specs.Building.{byte0By}
 use borrow.Author.Needs.{needs}
 use Rattle.initiator.proofs.building.byte0_of.Statement.{statement}
 use Rattle.initiator.proofs.building.byte0_of.Tie as tie
@@ -12,7 +12,7 @@ byte0-from-requires : tie.Need-byte0-from-requires
 byte0-from-requires c κs = search needs
 
 returns : tie.Need-returns
-unfolding byteOf
+unfolding byte0By
 returns c = (c .byte0-from .ensures .0 ∙ rw (c .before .kind-no .ensures), c .byte0-from .ensures .1)
 
 pub byte0-of-spec : {M : Type 1} → statement M
