@@ -1,5 +1,6 @@
--- A closed night from bytes: a write and a read, a send that comes late, an arrival and an answer that come twice, a discovery in
--- between whose answer reaches the sender, and a sender made anew. proofs/Example.antt computes it. Assumes nothing.
+-- A closed night from bytes: a write and a read, a send that comes late and one that never comes, an arrival and an answer that come
+-- twice, a discovery in between whose answer reaches the sender, and a sender made anew. proofs/Example.antt computes it. Assumes
+-- nothing.
 use Prim.Native.Nat.{ℕ, _+_}
 use mathlib.Core.Path.{_≡_}
 use mathlib.Core.Bool.{false}
@@ -41,12 +42,14 @@ reading = bytesOf (0x80020021 ∷ 0x00000000 ∷ [])
 abbrev pub night : List (Event ends)
 night =
     offer write ∷ send 0 ∷ send 0 ∷
-    -- the first send does not come; the second does, twice
+    -- the first send does not come yet; the second does, twice
     arrive 1 output ∷ arrive 1 longer ∷
     -- a discovery, whose answer reaches the sender before the message's own
     other discoveryBytes output ∷ back 2 ∷ back 0 ∷ back 1 ∷
-    -- the next message, the first send late, and the old answer once more
-    offer reading ∷ arrive 0 output ∷ back 0 ∷ send 0 ∷ arrive 2 output ∷ back 4 ∷ []
+    -- the next message, whose first send is lost; the write's first send late, and its old answer once more
+    offer reading ∷ send 0 ∷ arrive 0 output ∷ back 0 ∷
+    -- the second send comes, and its answer
+    send 0 ∷ arrive 3 output ∷ back 4 ∷ []
 
 -- what the controller gave at each arrival, the words of it: 80000030 to the write, each time; 800200B0, 1,472 and 10 to the
 -- discovery; 80020031 and both words to the reading
