@@ -85,7 +85,9 @@ pub record Serves (m s o : List ℕ) (tags : TagRecord) (dg : List ℕ) (r : Ser
   pub stored : s' ≡ after m s o tags dg .stored
   pub output : o' ≡ after m s o tags dg .output
 
--- the same, by a verdict
+-- what the calls inside `serve` go by
+
+-- `Serves`, by a verdict
 pub record ServesBy (v : Verdict) (m s o : List ℕ) (tags : TagRecord) (q : Request) (r : Served) (m' s' o' : List ℕ) : Type 0 where
   pub served : r ≡ afterBy v m s o tags q .served
   pub memory : m' ≡ afterBy v m s o tags q .memory
