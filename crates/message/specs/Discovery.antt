@@ -10,4 +10,4 @@ discoveryData = limitBytes ∷ 0 ∷ []
 
 -- "the fixed discovery 80020080 000005C0 00000000"
 unfoldable pub discoveryBytes : List ℕ
-discoveryBytes = bytesOf (2147614848 ∷ discoveryData)
+discoveryBytes = bytesOf (0x80020080 ∷ discoveryData)
