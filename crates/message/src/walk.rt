@@ -1,8 +1,10 @@
 // The walk of a request: one step at a header, and the whole of any datagram.
 ghost use mathlib.Core.Path.{_≡_};
 ghost use Prim.Native.Nat.{_<_, _≤_};
+ghost use mathlib.Core.Bool.{true};
 ghost use lib.ListN.{length};
 ghost use Rattle.word.specs.Words.{wordsOf};
+ghost use Rattle.message.specs.declared.header.Kind.the-variants.{Write};
 ghost use Rattle.message.specs.Walk.{asks, countOk, patternOk, enablesOk, endsOk, faultOf, stepOn, stepAt, refusalOf};
 ghost use Rattle.message.specs.Limits.{limitBytes};
 ghost use Rattle.message.specs.Request.{commandsFrom, lengthOk, endOf, finish, walkOf};
@@ -130,10 +132,53 @@ pub fn fault(byte0: u32, h: u32, left: usize) -> u32
     0
 }
 
-// A header h with `left` words after it.
+// Whether byte 0 is a write's.
+fn writes(byte0: u32) -> bool
+    ensures { λ r. ⌜ (r ≡ true → kindOf byte0 ≡ Write) ⌝ }
+{
+    let kind = header::kind_of(byte0);
+    match kind {
+        Kind::Nop => false,
+        Kind::Write => true,
+        Kind::Read => false,
+        Kind::Response => false,
+    }
+}
+
+// Whether this is a write of one word without fault, the most common command; of the rest nothing is said. Its last enables are 0,
+// its count is 1 and its reserved bits are 0 exactly if bits 30:12 are 16.
+fn short_write(byte0: u32, h: u32, left: usize) -> bool
+    ensures { λ r. ⌜ (r ≡ true → (kindOf byte0 ≡ Write) × (countOf h ≡ 1) × (faultOf byte0 h left ≡ 0)) ⌝ }
+{
+    if !writes(byte0) {
+        return false;
+    }
+    if header::byte0(h) != byte0 {
+        return false;
+    }
+    if h / 4096 % 524288 != 16 {
+        return false;
+    }
+    let body = header::address_words(byte0) + 1;
+    if left < body {
+        return false;
+    }
+    ends_ok(header::last(h), body, left)
+}
+
+// A header h with `left` words after it. The body of a short write has a size of its own here, so that the processor knows where the
+// next header stands before it has this one.
 pub fn step_on(byte0: u32, h: u32, left: usize) -> Step
     ensures { λ r. ⌜ r ≡ stepOn byte0 h left ⌝ }
 {
+    if short_write(byte0, h, left) {
+        return Step::Read(Head {
+            byte1: header::byte1(h),
+            count: 1,
+            body: header::address_words(byte0) + 1,
+            last: header::last(h),
+        });
+    }
     let number = fault(byte0, h, left);
     if number != 0 {
         return Step::Refused(Refusal { number });

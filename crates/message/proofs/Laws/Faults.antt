@@ -1,8 +1,9 @@
 -- A header's faults and a reading's checks, passed one by one. The laws of requests and answers cite these. Assumes nothing.
-use Prim.Native.Nat.{ℕ, zero, suc, _+_, _-_, _<_, _≤_}
+use Prim.Native.Nat.{ℕ, zero, suc, _+_, _-_, _*_, _/_, _%_, _<_, _≤_}
 use mathlib.Core.Path.{_≡_, refl, sym, ap, _∙_}
 use mathlib.Core.Bool.{Bool, true, false, not, cond, false≢true}
 use mathlib.Core.List.{List, [], _∷_, _++_}
+use native.Mathlib.Nat.{div-div-eq-div-mul, mul-mod-right}
 use native.Mathlib.Omega.{arith}
 use borrow.Author.Tests.{eqb-true, eqb-false, leb-true, eq-eqb, ne-eqb, le-leb}
 use lib.Dec.{ltb, leb, eqb}
@@ -11,8 +12,9 @@ use Rattle.message.specs.declared.header.Head.{Head}
 use Rattle.message.specs.declared.refusal.Refusal.{Refusal}
 use Rattle.message.specs.declared.walk.Step.{Step}
 use Rattle.message.specs.declared.walk.Step.the-variants.{Read, Refused}
+use Rattle.message.specs.declared.header.Kind.the-variants.{Write}
 use Rattle.message.specs.Header.{kindOf, byte0Of, byte1Of, countOf, reservedOf, lastOf, addressWords, dataWords, bodyWords, headOf}
-use Rattle.message.specs.Walk.{refusal, asks, countOk, enablesOk, endsOk, unless, faultOf, stepOn, stepAt}
+use Rattle.message.specs.Walk.{refusal, asks, countOk, patternOk, enablesOk, endsOk, unless, faultOf, stepOn, stepAt}
 use Rattle.message.specs.Request.{Reading, Wrong, Means, before, commandsFrom}
 
 -- a check that found no fault
@@ -63,6 +65,28 @@ faultless byte0 h left s =
       le-leb (addressWords byte0) left (omega (arith, s .within)),
       le-leb _ _ (s .within),
       s .ends,
+    )
+
+-- a write of one word, the header's bits 30:12 being 16: no fault if its body is there and nothing follows it where it is LAST
+pub short-faultless : (byte0 h left : ℕ) → kindOf byte0 ≡ Write → byte0Of h ≡ byte0 → h / 4096 % 524288 ≡ 16
+    → addressWords byte0 + 1 ≤ left → endsOk (lastOf h) (addressWords byte0 + 1) left ≡ true → (countOf h ≡ 1) × (faultOf byte0 h left ≡ 0)
+unfolding patternOk
+short-faultless byte0 h left kind same bits fits ends =
+    let one : countOf h ≡ 1 = omega (arith, bits) in
+    let final : byte1Of h / 16 ≡ 0 = omega (arith, bits) in
+    let high : h / 268435456 ≡ 8 * (h / 4096 / 524288) = sym (div-div-eq-div-mul h 4096 65536) ∙ omega (arith, bits) in
+    let body : bodyWords byte0 (countOf h) ≡ addressWords byte0 + 1 = rw (kind, one) in (
+      one,
+      faultless byte0 h left
+          (record {
+            same = same;
+            asking = rw kind;
+            clear = rw high (mul-mod-right 8 _);
+            counted = rw (kind, one);
+            enabled = rw (kind, one, final);
+            within = rw body fits;
+            ends = rw body ends;
+          }),
     )
 
 -- a step by its header's fault

@@ -1,0 +1,66 @@
+-- `message::walk::short_write` meets its contract: each test is a premise of `short-faultless`. Assumes nothing.
+use mathlib.Core.Path.{refl, sym, _∙_}
+use mathlib.Core.Bool.{false≢true}
+use Rattle.word.proofs.Rules.{flag-on}
+use Rattle.message.proofs.Laws.Faults.{short-faultless}
+use borrow.Author.Needs.{needs}
+use Rattle.message.proofs.walk.short_write.Statement.{statement}
+use Rattle.message.proofs.walk.short_write.Tie as tie
+
+writes-requires : tie.Need-writes-requires
+writes-requires c κs = search needs
+
+returns : tie.Need-returns
+returns c e = absurd (false≢true e)
+
+byte0-requires : tie.Need-byte0-requires
+byte0-requires c κs = search needs
+
+returns-2 : tie.Need-returns-2
+returns-2 c e = absurd (false≢true e)
+
+returns-3 : tie.Need-returns-3
+returns-3 c e = absurd (false≢true e)
+
+address-words-requires : tie.Need-address-words-requires
+address-words-requires c κs = search needs
+
+add-body : tie.Need-add-body
+add-body c = search needs
+
+returns-4 : tie.Need-returns-4
+returns-4 c e = absurd (false≢true e)
+
+last-requires : tie.Need-last-requires
+last-requires c κs = search needs
+
+ends-ok-requires : tie.Need-ends-ok-requires
+ends-ok-requires c κs = search needs
+
+returns-5 : tie.Need-returns-5
+returns-5 c e =
+    let s4 = c .before .before in
+    let s3 = s4 .before .before in
+    let s2 = s3 .before in
+    let s1 = s2 .before .before in
+    let a = s1 .before .before .args in
+    let kind = s1 .before .writes .ensures (flag-on refl (s1 .if1 .left)) in
+    let address = s4 .before .address-words .ensures .0 in
+    let none = short-faultless (a .byte0) (a .h) (a .left) kind (sym (s2 .before .byte0 .ensures .0) ∙ s2 .if2 .left) (s3 .if3 .left) (rw (← address) (s4 .if4 .left)) (rw (← address, ← c .before .last .ensures) (sym (c .ends-ok .ensures) ∙ e)) in
+    (kind, none .0, none .1)
+
+pub short-write-spec : {M : Type 1} → statement M
+short-write-spec =
+    tie.close
+    (tie.spec
+    writes-requires
+    returns
+    byte0-requires
+    returns-2
+    returns-3
+    address-words-requires
+    add-body
+    returns-4
+    last-requires
+    ends-ok-requires
+    returns-5)
