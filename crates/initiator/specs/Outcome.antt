@@ -12,7 +12,7 @@ use Rattle.message.specs.declared.answer.Status.the-variants.{Ok, Timeout, Erro
 use Rattle.message.specs.declared.refusal.Refusal.{Refusal}
 use Rattle.message.specs.Header.{kindOf, discoveryOf, countOf, lastOf}
 use Rattle.message.specs.Walk.{refusal}
-use Rattle.message.specs.Request.{Request, Reading, Wrong, Means, read}
+use Rattle.message.specs.Request.{Request, Reading, Wrong, Means, refusalIn, read}
 use Rattle.message.specs.declared.answer.Look.{Look}
 use Rattle.message.specs.declared.answer.Look.the-variants.{Item, Bad}
 use Rattle.word.specs.Words.{Bytes, bytesOf}
@@ -76,10 +76,6 @@ dataAt kind (suc k) (a ∷ more) = dataAt kind k more
 
 -- the same of a refused answer: "how many commands were answered, the status of command k, and the k-th command's read data" are
 -- none where it is refused
-abbrev pub refusalIn : Reading (List Answered) → Refusal
-refusalIn (Wrong r) = r
-refusalIn (Means items) = refusal 0
-
 abbrev pub countIn : Reading (List Answered) → ℕ
 countIn (Wrong r) = 0
 countIn (Means items) = length items

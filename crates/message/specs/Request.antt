@@ -33,6 +33,11 @@ pub data Reading (A : Type 0) : Type 0 where
   Wrong : Refusal → Reading A
   Means : A → Reading A
 
+-- its refusal; number 0 is none
+abbrev pub refusalIn : {A : Type 0} → Reading A → Refusal
+refusalIn (Wrong r) = r
+refusalIn (Means a) = refusal 0
+
 -- "64-bit address (two words, low first); else one word": the address in n words, and its n words
 unfoldable pub addressFrom : ℕ → List ℕ → ℕ
 addressFrom zero ws = 0

@@ -10,7 +10,7 @@ use lib.ListN.{getD, length}
 use Rattle.message.specs.declared.refusal.Refusal.{Refusal}
 use Rattle.message.specs.Header.{tagOf, discoveryOf}
 use Rattle.message.specs.Walk.{refusal}
-use Rattle.message.specs.Request.{Request, Reading, Wrong, Means, read}
+use Rattle.message.specs.Request.{Request, Reading, Wrong, Means, refusalIn, read}
 use Rattle.message.specs.Answer.{Answered, judge}
 use Rattle.message.proofs.Laws.Faults.{passed}
 use Rattle.message.proofs.Laws.Going.{read-first}
@@ -18,7 +18,7 @@ use Rattle.message.proofs.Laws.Looking.{Some, judge-some}
 use Rattle.initiator.specs.declared.sender.Sender.{Sender}
 use Rattle.initiator.specs.declared.sender.Moved.{Moved}
 use Rattle.initiator.specs.declared.outcome.Outcome.{Outcome}
-use Rattle.initiator.specs.Outcome.{judgedBy, toldOf, outcomeOf, refusalIn}
+use Rattle.initiator.specs.Outcome.{judgedBy, toldOf, outcomeOf}
 use Rattle.initiator.specs.Sender.{asksAs, sendFault, takenBy}
 
 -- 31 by its clauses
