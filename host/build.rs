@@ -1,24 +1,40 @@
-//! With the feature `proved`: links the static library that the variable
-//! CHARKHAVO_CONTROLLER names by its path (`some/place/libsomething.a`).
+//! Links the two static libraries, from the directory that the variable CHARKHAVO_LIBRARIES
+//! names or else from where `rt staticlib` puts them.
 
-use std::{env, path::Path};
+use std::env;
+use std::path::{Path, PathBuf};
 
-const LIBRARY: &str = "CHARKHAVO_CONTROLLER";
+const VARIABLE: &str = "CHARKHAVO_LIBRARIES";
 
 fn main() {
-    println!("cargo:rerun-if-env-changed={LIBRARY}");
-    if env::var_os("CARGO_FEATURE_PROVED").is_some() {
-        let library = env::var_os(LIBRARY).expect("CHARKHAVO_CONTROLLER names the library");
-        link(Path::new(&library));
+    println!("cargo::rerun-if-env-changed={VARIABLE}");
+    let place = place();
+    println!("cargo::rustc-link-search=native={}", place.display());
+    for name in ["controller", "loader"] {
+        link(&place, name);
     }
 }
 
-fn link(library: &Path) {
-    let library = library.canonicalize().expect("the library is there");
-    let stem = library.file_stem().and_then(|stem| stem.to_str()).expect("a name in UTF-8");
-    let name = stem.strip_prefix("lib").expect("a name that begins with lib");
-    let place = library.parent().expect("a directory").display();
-    println!("cargo:rerun-if-changed={}", library.display());
-    println!("cargo:rustc-link-search=native={place}");
-    println!("cargo:rustc-link-lib=static={name}");
+fn place() -> PathBuf {
+    match env::var_os(VARIABLE) {
+        Some(place) => PathBuf::from(place),
+        None => {
+            let package = env::var_os("CARGO_MANIFEST_DIR").expect("cargo names the package");
+            Path::new(&package).join("../target/staticlib")
+        }
+    }
+}
+
+fn link(place: &Path, name: &str) {
+    let library = place.join(format!("lib{name}.a"));
+    println!("cargo::rerun-if-changed={}", library.display());
+    if !library.is_file() {
+        println!(
+            "cargo::error=no library {}: make it by `rt staticlib {name}`, or set {VARIABLE} to \
+             the directory that holds libcontroller.a and libloader.a",
+            library.display()
+        );
+        return;
+    }
+    println!("cargo::rustc-link-lib=static={name}");
 }

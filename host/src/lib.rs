@@ -1,14 +1,46 @@
-//! Charkhavo's rules (document 01) in ordinary Rust, both ends.
+//! Charkhavo's two static libraries for programs in Rust, and an ordinary implementation of the
+//! same rules (document 01) to compare them with.
 //!
-//! `plain` is the implementation: the oracle that the proved code is compared with, and the
-//! controller that its speed is measured against. `random` makes inputs for such comparisons,
-//! always the same ones from the same seed. `timed` times controllers alike. `proved`, there
-//! with the feature of that name, reaches the proved controller through its C interface.
+//! The libraries' wrappers: `controller`, `builder`, `sender` and `outcome` are the ends as a
+//! program holds them; `refusal` is the error of each call; `ffi`, below them, has one function
+//! for each of the libraries', for any records and buffers.
+//!
+//! ```
+//! # use charkhavo_host::builder::{Builder, Enables, Head, Write};
+//! # use charkhavo_host::{Controller, Refusal, Sender, Status};
+//! # fn main() -> Result<(), Refusal> {
+//! # let (mut controller, mut sender, mut memory) = (Controller::fresh(), Sender::fresh(), [0; 8]);
+//! let head = Head { tag: sender.next_tag(), wide: false, discovery: false };
+//! let mut builder = Builder::<Write>::begin(head)?;
+//! builder.write(0x10, Enables::whole(1), &[7])?;
+//! sender.offer(builder.close()?)?;
+//! // What `send` gives goes to the controller, again and again until an answer is taken.
+//! let answer = controller.serve(&mut memory, sender.send()?)?;
+//! let outcome = sender.take(answer)?;
+//! assert_eq!((outcome.status(0), memory[4]), (Some(Status::Ok), 7));
+//! # Ok(())
+//! # }
+//! ```
+//!
+//! For comparison: `plain` is the ordinary implementation, the oracle and the yardstick of the
+//! proved code. `random` makes inputs, always the same ones from the same seed. `timed` times
+//! controllers alike.
 
 #![deny(unsafe_code)]
 
+pub mod builder;
+pub mod controller;
+pub mod ffi;
+pub mod limits;
+pub mod outcome;
 pub mod plain;
-#[cfg(feature = "proved")]
-pub mod proved;
 pub mod random;
+pub mod refusal;
+pub mod sender;
 pub mod timed;
+
+pub use builder::Builder;
+pub use controller::Controller;
+pub use outcome::{Outcome, Status};
+pub use refusal::Refusal;
+pub use sender::Sender;

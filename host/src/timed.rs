@@ -1,8 +1,10 @@
 //! Times controllers alike: the same datagrams, the same buffers at the same addresses, filled
 //! the same way before each round, rounds of the two interleaved, the median of each taken.
 
-use crate::plain;
-use crate::plain::message::{Header, WORDS};
+use crate::limits::{BYTES, WORDS};
+use crate::plain::message::Header;
+use crate::random::bytes_of;
+use crate::{ffi, plain};
 use std::hint::black_box;
 use std::time::Instant;
 
@@ -21,6 +23,30 @@ pub trait Controller {
         tags: &mut Self::Record,
         datagram: &[u8],
     ) -> (u32, usize);
+}
+
+/// The proved controller, straight through its library.
+pub struct Proved;
+
+impl Controller for Proved {
+    const NAME: &'static str = "proved";
+    type Record = ffi::TagRecord;
+
+    fn fresh() -> ffi::TagRecord {
+        ffi::TagRecord { fresh: true, tag: 0, words: 0 }
+    }
+
+    #[inline(always)]
+    fn serve(
+        memory: &mut [u32],
+        stored: &mut [u32],
+        output: &mut [u8],
+        tags: &mut ffi::TagRecord,
+        datagram: &[u8],
+    ) -> (u32, usize) {
+        let served = ffi::serve(memory, stored, output, tags, datagram);
+        (served.refusal.number, served.sent)
+    }
 }
 
 /// The ordinary controller of `plain`.
@@ -89,15 +115,11 @@ fn writes(tag: u32, commands: usize, count: usize, first: u32, last: u32) -> Vec
         words.push(4 * (tag + (7 * command % (MEMORY / 2)) as u32));
         words.extend((0..count as u32).map(|word| 0x0101_0101 * (tag + word)));
     }
-    bytes(&words)
+    bytes_of(&words)
 }
 
 fn read(tag: u32, count: usize) -> Vec<u8> {
-    bytes(&[Header::new(tag | 2 << 4, 0, count).0 | Header::LAST, 4 * tag])
-}
-
-fn bytes(words: &[u32]) -> Vec<u8> {
-    words.iter().flat_map(|word| word.to_le_bytes()).collect()
+    bytes_of(&[Header::new(tag | 2 << 4, 0, count).0 | Header::LAST, 4 * tag])
 }
 
 /// The buffers, one set for both controllers.
@@ -110,7 +132,7 @@ struct Buffers {
 impl Buffers {
     fn new() -> Buffers {
         let memory = vec![0; MEMORY.max(WORDS + 16)];
-        Buffers { memory, stored: vec![0; WORDS], output: vec![0; 4 * WORDS] }
+        Buffers { memory, stored: vec![0; WORDS], output: vec![0; BYTES] }
     }
 
     fn refill(&mut self) {

@@ -1,7 +1,9 @@
-//! The refusals in words.
+//! The refusals in words: document 01's, in Rust and in the C header alike.
 
-use charkhavo_host::plain::words::{sentence, TABLE};
-use charkhavo_host::plain::{message::WORDS, Refusal};
+use charkhavo_host::limits::WORDS;
+use charkhavo_host::refusal::{sentence, TABLE};
+use charkhavo_host::Refusal;
+use std::fs;
 
 #[test]
 fn each_number_of_document_01_has_a_sentence_and_no_other() {
@@ -22,4 +24,18 @@ fn the_limit_is_told_in_figures() {
         assert_eq!(words, "refused 10: the answer with all commands OK would pass 368 words");
     }
     assert!(TABLE.iter().all(|(number, _)| !sentence(*number).unwrap().contains('{')));
+}
+
+#[test]
+fn the_header_has_each_number_and_its_sentence() {
+    let header = concat!(env!("CARGO_MANIFEST_DIR"), "/../include/charkhavo.h");
+    let header = fs::read_to_string(header).expect("the header");
+    let header = header.split_whitespace().collect::<Vec<&str>>().join(" ");
+    for (number, _) in TABLE {
+        let words = sentence(number).unwrap();
+        let said = format!("/* {words} */ #define CHARKHAVO_REFUSED_");
+        let (_, after) = header.split_once(&said).expect(&said);
+        let value = after.split(' ').nth(1);
+        assert_eq!(value, Some(format!("UINT32_C({number})").as_str()), "{said}");
+    }
 }

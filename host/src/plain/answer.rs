@@ -1,7 +1,7 @@
 //! The answer's shape as the loader judges it against its request: refusals 32 to 35.
 
 use super::message::{commands, words_of, Header, Kind, Walked};
-use super::words::Refusal;
+use crate::refusal::Refusal;
 use std::ops::Range;
 
 /// What an answer says of one command.

@@ -1,8 +1,9 @@
 //! The loader end builds a message in a lent output: begin, add commands, close. Refusals 21
 //! to 26, lowest number first; with one, nothing has changed.
 
-use super::message::{enables_allowed, Header, BYTES, GREATEST_COUNT, GREATEST_NOP_COUNT, WORDS};
-use super::words::Refusal;
+use super::message::{enables_allowed, Header, GREATEST_COUNT, GREATEST_NOP_COUNT};
+use crate::limits::{BYTES, WORDS};
+use crate::refusal::Refusal;
 
 const NOP: u32 = 0;
 const WRITE: u32 = 1;

@@ -1,11 +1,11 @@
 //! The controller end (the completer): one call for each datagram that arrives, refusals 1
 //! to 11. The datagram is walked once, then carried out once; nothing is allocated.
 
-use super::message::{self, Header, Kind, Walked, WordBytes, BYTES, WORDS};
-use super::words::Refusal;
+use super::message::{self, Header, Kind, Walked, WordBytes};
+use crate::limits::{BYTES, MEMORY, WORDS};
+use crate::refusal::Refusal;
 
 /// What the controller keeps between calls besides memory and stored answer.
-#[repr(C)]
 #[derive(Clone, Copy, Debug, PartialEq, Eq)]
 pub struct TagRecord {
     /// No tag yet; the other fields are then not looked at.
@@ -22,7 +22,7 @@ impl TagRecord {
     /// The least length of the output.
     pub const BYTES: usize = BYTES;
     /// The most words of memory; the least is 1.
-    pub const MEMORY: usize = 16_384;
+    pub const MEMORY: usize = MEMORY;
     /// Advertisement word 0.
     pub const ADVERTISEMENT: u32 = BYTES as u32;
     /// Advertisement word 1 is the stored tag plus this, or 0 where none is stored.
@@ -65,7 +65,6 @@ enum Verdict {
 
 /// What a call gives back: the refusal's number (0 for none), and how many of the output's
 /// first bytes are to be sent (0 with a refusal).
-#[repr(C)]
 #[derive(Clone, Copy, Debug, PartialEq, Eq)]
 pub struct Served {
     pub refusal: u32,

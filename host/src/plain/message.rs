@@ -1,12 +1,9 @@
 //! The message rules: header fields, the walk over a request with refusals 2 to 10, and the
 //! commands of a well-formed one. Both ends stand on these.
 
-use super::words::Refusal;
+use crate::limits::WORDS;
+use crate::refusal::Refusal;
 
-/// The most words a message or an answer has. Named here alone; all other limits follow.
-pub const WORDS: usize = 368;
-/// The same limit in bytes: a datagram's, the output's, and advertisement word 0.
-pub const BYTES: usize = 4 * WORDS;
 /// The greatest count of a write or read: what 12 bits hold.
 pub const GREATEST_COUNT: usize = 4095;
 /// The greatest count of a NOP (house).

@@ -1,4 +1,5 @@
-//! The ordinary implementation of document 01, both ends, without allocation.
+//! The ordinary implementation of document 01, both ends, without allocation. It knows nothing
+//! of the libraries; it shares the limits and the refusals' names with their wrappers.
 
 #![forbid(unsafe_code)]
 
@@ -8,9 +9,7 @@ pub mod controller;
 pub mod message;
 pub mod outcome;
 pub mod sender;
-pub mod words;
 
 pub use builder::{Addition, Building};
 pub use controller::{serve, Served, TagRecord};
 pub use sender::Sender;
-pub use words::Refusal;

@@ -2,8 +2,9 @@
 //! 30 to 38; with one, the sender has not changed.
 
 use super::answer::judge;
-use super::message::{walk, Walked, BYTES};
-use super::words::Refusal;
+use super::message::{walk, Walked};
+use crate::limits::BYTES;
+use crate::refusal::Refusal;
 
 /// The sender's record. Its fields can be set by anybody; each call judges them first.
 #[derive(Clone, Copy, Debug, PartialEq, Eq)]

@@ -2,7 +2,7 @@
 
 use super::controller::length_from;
 use super::Random;
-use crate::plain::message::{BYTES, WORDS};
+use crate::limits::{BYTES, WORDS};
 use crate::plain::{Addition, Building};
 
 /// One call to the builder, numbers as they come.

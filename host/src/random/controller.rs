@@ -2,7 +2,7 @@
 
 use super::requests::{damaged, request, Wish};
 use super::Random;
-use crate::plain::message::{BYTES, WORDS};
+use crate::limits::{BYTES, MEMORY, WORDS};
 use crate::plain::TagRecord;
 
 /// All that a controller call is lent. Clone it, give one to each implementation, and compare
@@ -39,8 +39,8 @@ pub fn lent(random: &mut Random) -> Lent {
 pub fn memory_length(random: &mut Random) -> usize {
     match random.below(100) {
         0 => 0,
-        1 => TagRecord::MEMORY + 1,
-        2 => TagRecord::MEMORY,
+        1 => MEMORY + 1,
+        2 => MEMORY,
         3..=12 => 1,
         13..=40 => WORDS + random.below(WORDS),
         _ => random.between(1, 40),

@@ -1,7 +1,8 @@
 //! Random requests: well-formed ones of each kind and mode, and damaged ones.
 
 use super::{bytes_of, Random};
-use crate::plain::message::{commands, walk, Header, Kind, GREATEST_COUNT, WORDS};
+use crate::limits::WORDS;
+use crate::plain::message::{commands, walk, Header, Kind, GREATEST_COUNT};
 
 /// What all headers of a request share, and the memory that its addresses aim at.
 #[derive(Clone, Copy, Debug)]

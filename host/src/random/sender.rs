@@ -3,7 +3,8 @@
 
 use super::requests::{damaged, request, Wish};
 use super::{bytes_of, Random};
-use crate::plain::message::{commands, walk, Header, BYTES, WORDS};
+use crate::limits::{BYTES, WORDS};
+use crate::plain::message::{commands, walk, Header};
 use crate::plain::sender::DISCOVERY;
 use crate::plain::{serve, Sender, TagRecord};
 

@@ -1,20 +1,27 @@
-//! What the tests share: words and bytes, and a bench controller that checks, at each call,
-//! what document 01 says of everything lent.
+//! What the tests share: the ends, the slow second reading of the rules, and a bench controller
+//! that checks, at each call, what document 01 says of everything lent.
 
 #![allow(dead_code)]
 
+pub mod ends;
+pub mod library;
 pub mod naive;
 pub mod naive_building;
+pub mod naive_ends;
+pub mod plain;
+pub mod seen;
 
-use charkhavo_host::plain::message::{BYTES, WORDS};
-use charkhavo_host::plain::{serve, Served, TagRecord};
+use crate::Ours;
+use charkhavo_host::limits::{BYTES, WORDS};
+use charkhavo_host::plain::TagRecord;
 pub use charkhavo_host::random::bytes_of;
+pub use ends::Ends;
 
 pub fn words_of(bytes: &[u8]) -> Vec<u32> {
     bytes.as_chunks().0.iter().map(|word| u32::from_le_bytes(*word)).collect()
 }
 
-/// A controller with its buffers.
+/// A controller of the ends under test, with its buffers.
 #[derive(Clone, Debug, PartialEq, Eq)]
 pub struct Bench {
     pub memory: Vec<u32>,
@@ -50,7 +57,12 @@ impl Bench {
     pub fn give_bytes(&mut self, datagram: &[u8]) -> Result<Vec<u32>, u32> {
         let before = self.clone();
         let Bench { memory, stored, output, tags } = self;
-        let Served { refusal, sent } = serve(memory, stored, output, tags, datagram);
+        let (refusal, sent) = Ours::serve(memory, stored, output, tags, datagram);
+        match refusal {
+            1 => {}
+            2..=10 => assert_eq!(Ours::refusal(datagram), refusal, "the loader says the same"),
+            _ => assert_eq!(Ours::refusal(datagram), 0),
+        }
         if refusal != 0 {
             assert_eq!(sent, 0);
             assert_eq!(*self, before, "a refusal changes nothing");

@@ -1,7 +1,7 @@
 //! Document 01 once more, slowly: lists and numbers, one sentence after the other, sharing
 //! nothing with the implementation but the limit and the records that go in and out.
 
-use charkhavo_host::plain::message::WORDS;
+use charkhavo_host::limits::WORDS;
 use charkhavo_host::plain::{Sender, TagRecord};
 use charkhavo_host::random::controller::Lent;
 

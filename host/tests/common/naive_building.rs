@@ -1,6 +1,6 @@
 //! Building once more: what sequences of calls give, found by following them.
 
-use charkhavo_host::plain::message::WORDS;
+use charkhavo_host::limits::WORDS;
 use charkhavo_host::plain::Building;
 
 /// For one kind and mode: which (words, answer) some additions give.

@@ -1,6 +1,6 @@
 //! The refusals: document 01's numbers, and its words for each.
 
-use super::message::{BYTES, WORDS};
+use crate::limits::{BYTES, WORDS};
 use std::fmt;
 
 /// A refusal by its number in document 01.

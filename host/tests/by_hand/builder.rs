@@ -1,10 +1,9 @@
 //! Building a message: refusals 21 to 26 by hand, and what each call writes.
 
-mod common;
-
-use charkhavo_host::plain::message::{BYTES, WORDS};
-use charkhavo_host::plain::{Addition, Building, Refusal};
-use common::words_of;
+use crate::common::{words_of, Ends};
+use crate::Ours;
+use charkhavo_host::limits::{BYTES, WORDS};
+use charkhavo_host::plain::{Addition, Building};
 
 const NOTHING: Addition = Addition { address: 0, first: 0, last: 0, count: 0, data: &[] };
 
@@ -24,28 +23,36 @@ struct Bench {
 
 impl Bench {
     fn begin(kind: u32, wide: bool) -> Bench {
-        let output = vec![0x77; BYTES];
-        let record = Building::begin(&output, kind, 3, wide, false).unwrap();
+        Bench::begin_as(vec![0x77; BYTES], kind, 3, wide, false)
+    }
+
+    fn begin_as(output: Vec<u8>, kind: u32, tag: u32, wide: bool, discovery: bool) -> Bench {
+        let (number, record) = Ours::begin(&output, kind, tag, wide, discovery);
+        assert_eq!(number, 0);
+        let begun = Building { kind, tag, wide, discovery, ..Building::EMPTY };
+        assert_eq!(record, begun);
         Bench { record, output }
     }
 
     /// Adds; a refusal must leave record and output alone.
     fn add(&mut self, addition: Addition) -> u32 {
-        let (record, output) = (self.record, self.output.clone());
-        let done = self.record.add(&mut self.output, addition);
-        self.checked(done, record, output)
+        let before = self.output.clone();
+        let done = Ours::add(&mut self.output, self.record, addition);
+        self.checked(done, before)
     }
 
     fn close(&mut self) -> u32 {
-        let (record, output) = (self.record, self.output.clone());
-        let done = self.record.close(&mut self.output);
-        self.checked(done, record, output)
+        let before = self.output.clone();
+        let done = Ours::close(&mut self.output, self.record);
+        self.checked(done, before)
     }
 
-    fn checked(&self, done: Result<(), Refusal>, record: Building, output: Vec<u8>) -> u32 {
-        let Err(refusal) = done else { return 0 };
-        assert_eq!((self.record, &self.output), (record, &output));
-        refusal.0
+    fn checked(&mut self, (number, record): (u32, Building), output: Vec<u8>) -> u32 {
+        if number != 0 {
+            assert_eq!((record, &self.output), (self.record, &output));
+        }
+        self.record = record;
+        number
     }
 
     fn words(&self) -> Vec<u32> {
@@ -68,13 +75,12 @@ fn a_write_of_two_commands() {
 
 #[test]
 fn wide_reads_and_discoveries() {
-    let mut output = vec![0; BYTES + 9];
-    let mut record = Building::begin(&output, 2, 15, true, true).unwrap();
+    let mut bench = Bench::begin_as(vec![0x77; BYTES + 9], 2, 15, true, true);
     let ignored = Addition { first: 99, last: 99, data: &[5; 5000], ..read(1 << 40, 9) };
-    record.add(&mut output, ignored).unwrap();
-    record.close(&mut output).unwrap();
-    assert_eq!(words_of(&output[..12]), [0x8009_00EF, 0, 0x100]);
-    assert_eq!((record.words, record.answer), (3, 10));
+    assert_eq!(bench.add(ignored), 0);
+    assert_eq!(bench.close(), 0);
+    assert_eq!(bench.words(), [0x8009_00EF, 0, 0x100]);
+    assert_eq!((bench.record.words, bench.record.answer), (3, 10));
 }
 
 #[test]
@@ -89,10 +95,10 @@ fn nops_carry_their_words_and_no_address() {
 
 #[test]
 fn refusal_21_at_begin() {
-    let begin = |length, kind, tag| Building::begin(&vec![0; length], kind, tag, false, false);
-    assert!(begin(BYTES, 2, 15).is_ok());
+    let begin = |length, kind, tag| Ours::begin(&vec![0; length], kind, tag, true, true);
+    assert_eq!(begin(BYTES, 2, 15).0, 0);
     for (length, kind, tag) in [(BYTES - 1, 0, 0), (BYTES, 3, 0), (BYTES, 0, 16), (0, 9, 99)] {
-        assert_eq!(begin(length, kind, tag), Err(Refusal(21)));
+        assert_eq!(begin(length, kind, tag), (21, Building::EMPTY));
     }
 }
 
@@ -121,7 +127,7 @@ fn refusal_21_of_records_that_cannot_be() {
     assert_eq!(spoilt(|record| record.wide = true), 21);
     assert_eq!(spoilt(|record| record.discovery = true), 0);
     let nothing = Building { closed: true, ..Building::EMPTY };
-    assert_eq!({ nothing }.close(&mut vec![0; BYTES]), Err(Refusal(21)));
+    assert_eq!(Ours::close(&mut vec![0; BYTES], nothing), (21, nothing));
 }
 
 #[test]

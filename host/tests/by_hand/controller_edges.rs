@@ -1,10 +1,8 @@
 //! Edges that document 01 and the decided points name, at the controller.
 
-mod common;
-
-use charkhavo_host::plain::message::{BYTES, WORDS};
+use crate::common::{words_of, Bench};
+use charkhavo_host::limits::{BYTES, WORDS};
 use charkhavo_host::plain::TagRecord;
-use common::Bench;
 
 #[test]
 fn nothing_wraps_to_word_0() {
@@ -52,7 +50,7 @@ fn exactly_the_enabled_bytes() {
                     [byte + 4 * (enables as usize >> byte & 1)]
             })
             .collect();
-        assert_eq!(bench.memory, common::words_of(&bytes), "enables {enables:X}");
+        assert_eq!(bench.memory, words_of(&bytes), "enables {enables:X}");
     }
 }
 

@@ -1,10 +1,8 @@
 //! The bench sheet of document 01, line by line.
 
-mod common;
-
-use charkhavo_host::plain::message::WORDS;
+use crate::common::Bench;
+use charkhavo_host::limits::WORDS;
 use charkhavo_host::plain::TagRecord;
-use common::Bench;
 
 const A: [u32; 3] = [0x8001_0F10, 0x0000_0004, 0xFEED_C0DE];
 

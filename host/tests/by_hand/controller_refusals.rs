@@ -1,10 +1,8 @@
 //! Each refusal of the controller by hand-made datagrams, and the order they come in.
 
-mod common;
-
-use charkhavo_host::plain::message::{BYTES, WORDS};
+use crate::common::{bytes_of, Bench};
+use charkhavo_host::limits::{BYTES, WORDS};
 use charkhavo_host::plain::TagRecord;
-use common::{bytes_of, Bench};
 
 fn refused(words: &[u32]) -> Option<u32> {
     Bench::sheet().give(words).err()

@@ -1,0 +1,42 @@
+//! The controller's end, through its library.
+
+use crate::ffi::{self, TagRecord};
+use crate::limits::{BYTES, WORDS};
+use crate::refusal::Refusal;
+
+/// A controller: its stored answer, its output and its tag record. Memory is lent to it at each
+/// call, and may be changed by others in between.
+#[derive(Clone, Debug, PartialEq, Eq)]
+pub struct Controller {
+    stored: [u32; WORDS],
+    output: [u8; BYTES],
+    tags: TagRecord,
+}
+
+impl Controller {
+    /// A controller that has no tag stored, and takes any as new.
+    pub fn fresh() -> Controller {
+        let tags = TagRecord { fresh: true, tag: 0, words: 0 };
+        Controller { stored: [0; WORDS], output: [0; BYTES], tags }
+    }
+
+    /// The stored tag: that of the last new message; none while fresh.
+    pub fn tag(&self) -> Option<u32> {
+        (!self.tags.fresh).then_some(self.tags.tag)
+    }
+
+    /// Serves one datagram upon a memory of 1 to 16,384 words; gives the bytes to send back.
+    /// Refusals: 1 where memory is of another length, 2 to 11; with one, nothing has changed.
+    pub fn serve(&mut self, memory: &mut [u32], datagram: &[u8]) -> Result<&[u8], Refusal> {
+        let Controller { stored, output, tags } = self;
+        let sent = ffi::serve(memory, stored, output, tags, datagram);
+        sent.refusal.result()?;
+        Ok(&output[..sent.sent])
+    }
+}
+
+impl Default for Controller {
+    fn default() -> Controller {
+        Controller::fresh()
+    }
+}

@@ -1,0 +1,167 @@
+//! The declarations of `include/charkhavo.h`, in its order: the records as C lays them out, and
+//! the libraries' functions. What each means stands there.
+
+/// A refusal as C has it: a struct of its number, 0 where nothing is refused.
+#[repr(C)]
+#[derive(Clone, Copy, Debug, PartialEq, Eq)]
+pub struct Number {
+    pub number: u32,
+}
+
+#[repr(C)]
+#[derive(Clone, Copy, Debug, PartialEq, Eq)]
+pub struct TagRecord {
+    pub fresh: bool,
+    pub tag: u32,
+    pub words: usize,
+}
+
+#[repr(C)]
+#[derive(Clone, Copy, Debug, PartialEq, Eq)]
+pub struct Sent {
+    pub refusal: Number,
+    pub sent: usize,
+}
+
+#[repr(C)]
+#[derive(Clone, Copy, Debug, PartialEq, Eq)]
+pub struct Building {
+    pub kind: u32,
+    pub tag: u32,
+    pub wide: bool,
+    pub discovery: bool,
+    pub words: usize,
+    pub last: usize,
+    pub answer: usize,
+    pub closed: bool,
+}
+
+#[repr(C)]
+#[derive(Clone, Copy, Debug, PartialEq, Eq)]
+pub struct Asked {
+    pub address: u64,
+    pub first: u32,
+    pub last: u32,
+    pub count: usize,
+}
+
+#[repr(C)]
+#[derive(Clone, Copy, Debug, PartialEq, Eq)]
+pub struct Built {
+    pub refusal: Number,
+    pub building: Building,
+}
+
+#[repr(C)]
+#[derive(Clone, Copy, Debug, PartialEq, Eq)]
+pub struct Discovery {
+    pub bytes: [u8; 12],
+}
+
+#[repr(C)]
+#[derive(Clone, Copy, Debug, PartialEq, Eq)]
+pub struct Sender {
+    pub next: u32,
+    pub waits: bool,
+}
+
+#[repr(C)]
+#[derive(Clone, Copy, Debug, PartialEq, Eq)]
+pub struct Moved {
+    pub refusal: Number,
+    pub sender: Sender,
+}
+
+#[repr(C)]
+#[derive(Clone, Copy, Debug, PartialEq, Eq)]
+pub struct Sending {
+    pub refusal: Number,
+    pub length: usize,
+}
+
+#[repr(C)]
+#[derive(Clone, Copy, Debug, PartialEq, Eq)]
+pub struct Part {
+    pub start: usize,
+    pub length: usize,
+}
+
+// A slice is passed as its pointer and its length.
+extern "C" {
+    // libcontroller.a
+    pub(super) fn charkhavo_serve(
+        memory: *mut u32,
+        memory_length: usize,
+        stored: *mut u32,
+        stored_length: usize,
+        output: *mut u8,
+        output_length: usize,
+        tags: *mut TagRecord,
+        datagram: *const u8,
+        datagram_length: usize,
+    ) -> Sent;
+
+    // libloader.a
+    pub(super) fn charkhavo_refusal(request: *const u8, request_length: usize) -> Number;
+    pub(super) fn charkhavo_begin(
+        output: *const u8,
+        output_length: usize,
+        kind: u32,
+        tag: u32,
+        wide: bool,
+        discovery: bool,
+    ) -> Built;
+    pub(super) fn charkhavo_add(
+        output: *mut u8,
+        output_length: usize,
+        building: Building,
+        asked: Asked,
+        payload: *const u32,
+        payload_length: usize,
+    ) -> Built;
+    pub(super) fn charkhavo_close(
+        output: *mut u8,
+        output_length: usize,
+        building: Building,
+    ) -> Built;
+    pub(super) fn charkhavo_discovery() -> Discovery;
+    pub(super) fn charkhavo_fresh() -> Sender;
+    pub(super) fn charkhavo_discovered(answer: *const u8, answer_length: usize) -> Moved;
+    pub(super) fn charkhavo_offer(
+        sender: Sender,
+        message: *const u8,
+        message_length: usize,
+    ) -> Moved;
+    pub(super) fn charkhavo_send(
+        sender: Sender,
+        message: *const u8,
+        message_length: usize,
+    ) -> Sending;
+    pub(super) fn charkhavo_take(
+        sender: Sender,
+        message: *const u8,
+        message_length: usize,
+        answer: *const u8,
+        answer_length: usize,
+    ) -> Moved;
+    pub(super) fn charkhavo_count(
+        request: *const u8,
+        request_length: usize,
+        answer: *const u8,
+        answer_length: usize,
+    ) -> usize;
+    pub(super) fn charkhavo_status(
+        request: *const u8,
+        request_length: usize,
+        answer: *const u8,
+        answer_length: usize,
+        k: usize,
+    ) -> u32;
+    pub(super) fn charkhavo_read_data(
+        request: *const u8,
+        request_length: usize,
+        answer: *const u8,
+        answer_length: usize,
+        k: usize,
+    ) -> Part;
+}

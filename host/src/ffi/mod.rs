@@ -1,0 +1,137 @@
+//! The two static libraries: one safe function for each of theirs, over slices and records of
+//! any lengths and contents. All `unsafe` of the package is in this module.
+//!
+//! Why the calls are sound. A library reads and writes what it was lent, within the lengths
+//! given, for any values of it, and keeps no pointer; each function here hands it the pointer
+//! and the length of one slice side by side, so the pointers are valid and aligned for those
+//! lengths. What a library may change comes as `&mut`, so nothing else refers to it during the
+//! call. Every value of a byte, a word or a number is a value of its Rust type, and a `bool`
+//! that a library gives back is 0 or 1, being one of its own or the caller's. The records
+//! are laid out as the libraries lay them out (`repr(C)` on both sides).
+
+#![allow(unsafe_code)]
+
+mod c;
+
+pub use c::TagRecord;
+pub use c::{Asked, Building, Built, Discovery, Moved, Number, Part, Sender, Sending, Sent};
+
+use crate::refusal::Refusal;
+
+impl Number {
+    /// 0 is no refusal.
+    pub fn result(self) -> Result<(), Refusal> {
+        match self.number {
+            0 => Ok(()),
+            number => Err(Refusal(number)),
+        }
+    }
+}
+
+/// Serves one datagram: 1 to 11.
+#[inline(always)]
+pub fn serve(
+    memory: &mut [u32],
+    stored: &mut [u32],
+    output: &mut [u8],
+    tags: &mut TagRecord,
+    datagram: &[u8],
+) -> Sent {
+    // Sound: four lent exclusively, one shared, each with its own length.
+    unsafe {
+        c::charkhavo_serve(
+            memory.as_mut_ptr(),
+            memory.len(),
+            stored.as_mut_ptr(),
+            stored.len(),
+            output.as_mut_ptr(),
+            output.len(),
+            tags,
+            datagram.as_ptr(),
+            datagram.len(),
+        )
+    }
+}
+
+/// The refusal of a request by any controller, 2 to 10; number 0 where it is well-formed.
+pub fn refusal(request: &[u8]) -> Number {
+    // Sound: the request is only read.
+    unsafe { c::charkhavo_refusal(request.as_ptr(), request.len()) }
+}
+
+/// Begins a message: 21.
+pub fn begin(output: &[u8], kind: u32, tag: u32, wide: bool, discovery: bool) -> Built {
+    // Sound: the output is only read, if at all.
+    unsafe { c::charkhavo_begin(output.as_ptr(), output.len(), kind, tag, wide, discovery) }
+}
+
+/// Adds a command, with the data of a write or NOP: 21 to 26.
+pub fn add(output: &mut [u8], building: Building, asked: Asked, payload: &[u32]) -> Built {
+    let (data, count) = (payload.as_ptr(), payload.len());
+    // Sound: the output is lent exclusively, the payload only read; the records go by value.
+    unsafe { c::charkhavo_add(output.as_mut_ptr(), output.len(), building, asked, data, count) }
+}
+
+/// Closes the message: 21, 22.
+pub fn close(output: &mut [u8], building: Building) -> Built {
+    // Sound: the output is lent exclusively; the record goes by value.
+    unsafe { c::charkhavo_close(output.as_mut_ptr(), output.len(), building) }
+}
+
+/// The fixed discovery's bytes.
+pub fn discovery() -> [u8; 12] {
+    // Sound: nothing is lent.
+    unsafe { c::charkhavo_discovery() }.bytes
+}
+
+/// The sender of a fresh pair.
+pub fn fresh() -> Sender {
+    // Sound: nothing is lent.
+    unsafe { c::charkhavo_fresh() }
+}
+
+/// The sender that an answer to the fixed discovery makes: 32 to 35, 38.
+pub fn discovered(answer: &[u8]) -> Moved {
+    // Sound: the answer is only read.
+    unsafe { c::charkhavo_discovered(answer.as_ptr(), answer.len()) }
+}
+
+/// Offers a message, which then waits: 37, 36, 31.
+pub fn offer(sender: Sender, message: &[u8]) -> Moved {
+    // Sound: the message is only read; the record goes by value.
+    unsafe { c::charkhavo_offer(sender, message.as_ptr(), message.len()) }
+}
+
+/// Whether the waiting message may go out, and its length: 37, 30, 31.
+pub fn send(sender: Sender, message: &[u8]) -> Sending {
+    // Sound: the message is only read; the record goes by value.
+    unsafe { c::charkhavo_send(sender, message.as_ptr(), message.len()) }
+}
+
+/// Takes an answer to the waiting message: 37, 30, 31, 32 to 35.
+pub fn take(sender: Sender, message: &[u8], answer: &[u8]) -> Moved {
+    let (back, length) = (answer.as_ptr(), answer.len());
+    // Sound: message and answer are only read; the record goes by value.
+    unsafe { c::charkhavo_take(sender, message.as_ptr(), message.len(), back, length) }
+}
+
+/// How many commands an answer answers; 0 where it is refused.
+pub fn count(request: &[u8], answer: &[u8]) -> usize {
+    let (back, length) = (answer.as_ptr(), answer.len());
+    // Sound: both are only read.
+    unsafe { c::charkhavo_count(request.as_ptr(), request.len(), back, length) }
+}
+
+/// How command `k` ended: 0 OK, 1 Timeout, 2 Error, 3 not answered.
+pub fn status(request: &[u8], answer: &[u8], k: usize) -> u32 {
+    let (back, length) = (answer.as_ptr(), answer.len());
+    // Sound: both are only read; `k` may be any number.
+    unsafe { c::charkhavo_status(request.as_ptr(), request.len(), back, length, k) }
+}
+
+/// Where in the answer the read data of command `k` stand.
+pub fn read_data(request: &[u8], answer: &[u8], k: usize) -> Part {
+    let (back, length) = (answer.as_ptr(), answer.len());
+    // Sound: both are only read; `k` may be any number.
+    unsafe { c::charkhavo_read_data(request.as_ptr(), request.len(), back, length, k) }
+}

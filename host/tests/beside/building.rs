@@ -1,0 +1,83 @@
+//! Building, for any outputs, records and commands.
+
+use crate::common::naive_building::Sequences;
+use crate::common::seen::Seen;
+use crate::common::Ends;
+use crate::{Other, Ours, ROUNDS, SEED};
+use charkhavo_host::limits::{BYTES, WORDS};
+use charkhavo_host::plain::Building;
+use charkhavo_host::random::building::{begin, next, output, record, Call};
+use charkhavo_host::random::Random;
+
+#[test]
+fn building_calls() {
+    let mut random = Random::new(SEED + 3);
+    let mut seen = Seen::default();
+    let (mut calls, mut finished) = (0, 0);
+    while calls < ROUNDS {
+        let mut output = output(&mut random);
+        let (number, begun) = same_begin(&mut random, &output);
+        seen.note(number);
+        let goes_on = number == 0 && !random.one_in(3);
+        let mut building = if goes_on { begun } else { record(&mut random) };
+        let more = random.between(1, 40);
+        for _ in 0..more {
+            let call = next(&mut random, building.kind);
+            let (number, after) = same_call(&mut output, building, &call);
+            building = after;
+            seen.note(number);
+        }
+        calls += 1 + more;
+        if goes_on && building.closed {
+            assert_eq!(Other::refusal(&output[..4 * building.words]), 0, "well-formed");
+            finished += 1;
+        }
+    }
+    assert!(finished > ROUNDS / 1000, "{finished} finished messages");
+    seen.exactly([0, 21, 22, 23, 24, 25, 26]);
+}
+
+fn same_begin(random: &mut Random, output: &[u8]) -> (u32, Building) {
+    let Call::Begin { kind, tag, wide, discovery } = begin(random) else { unreachable!() };
+    let ours = Ours::begin(output, kind, tag, wide, discovery);
+    assert_eq!(ours, Other::begin(output, kind, tag, wide, discovery));
+    ours
+}
+
+/// Adds or closes by both, over outputs alike; number, record and every byte must agree.
+fn same_call(output: &mut [u8], building: Building, call: &Call) -> (u32, Building) {
+    let mut other = output.to_vec();
+    let (ours, others) = match call.addition() {
+        Some(addition) => {
+            (Ours::add(output, building, addition), Other::add(&mut other, building, addition))
+        }
+        None => (Ours::close(output, building), Other::close(&mut other, building)),
+    };
+    assert_eq!(ours, others, "{building:?} {call:?}");
+    assert!(*output == *other, "{building:?} {call:?}");
+    ours
+}
+
+/// Every record within the limits and a little past, beside what following the calls finds.
+#[test]
+fn records_that_no_calls_give() {
+    let step = if WORDS <= 400 { 1 } else { 11 };
+    let mut output = vec![0; BYTES];
+    let mut allowed = 0u64;
+    for (which, sequences) in Sequences::all().iter().enumerate() {
+        let empty = Building { kind: which as u32 / 2, wide: which % 2 == 1, ..Building::EMPTY };
+        for words in (0..=WORDS + 2).step_by(step) {
+            for last in (0..=words + 1).step_by(step) {
+                for answer in (0..=WORDS + 2).step_by(step) {
+                    let closed = answer % 3 == 0;
+                    let record = Building { words, last, answer, closed, ..empty };
+                    let given = sequences.give(words, last, answer, closed);
+                    let (number, _) = Ours::close(&mut output, record);
+                    assert_eq!(number != 21, given, "{record:?}");
+                    allowed += u64::from(given);
+                }
+            }
+        }
+    }
+    println!("{allowed} records that calls give");
+}

@@ -1,0 +1,65 @@
+//! The controller's call, for any buffers, records and datagrams.
+
+use crate::common::seen::Seen;
+use crate::common::Ends;
+use crate::{Other, Ours, ROUNDS, SEED};
+use charkhavo_host::random::controller::{lent, Lent};
+use charkhavo_host::random::Random;
+
+#[test]
+fn controller_calls() {
+    let mut random = Random::new(SEED);
+    let (mut seen, mut requests) = (Seen::default(), Seen::default());
+    let mut met = Met::default();
+    for round in 0..ROUNDS {
+        let given = lent(&mut random);
+        let (mut ours, mut other) = (given.clone(), given.clone());
+        let (refusal, sent) = serve::<Ours>(&mut ours);
+        assert_eq!((refusal, sent), serve::<Other>(&mut other), "round {round}: {given:?}");
+        assert!(ours == other, "round {round}: {given:?}");
+        seen.note(refusal);
+        let well_formed = Ours::refusal(&given.datagram);
+        assert_eq!(well_formed, Other::refusal(&given.datagram), "round {round}: {given:?}");
+        requests.note(well_formed);
+        met.note(refusal, &given, &ours);
+    }
+    seen.exactly(0..=11);
+    requests.exactly([0, 2, 3, 4, 5, 6, 7, 8, 9, 10]);
+    met.all();
+}
+
+fn serve<E: Ends>(lent: &mut Lent) -> (u32, usize) {
+    let Lent { memory, stored, output, tags, datagram } = lent;
+    E::serve(memory, stored, output, tags, datagram)
+}
+
+/// How often each way of being served came, and memory was changed.
+#[derive(Default)]
+struct Met {
+    new: usize,
+    repeats: usize,
+    discoveries: usize,
+    changes: usize,
+}
+
+impl Met {
+    fn note(&mut self, refusal: u32, before: &Lent, after: &Lent) {
+        if refusal != 0 {
+            return;
+        }
+        if before.datagram[0] & 0x80 != 0 {
+            self.discoveries += 1;
+        } else if before.tags != after.tags {
+            self.new += 1;
+        } else {
+            self.repeats += 1;
+        }
+        self.changes += usize::from(before.memory != after.memory);
+    }
+
+    fn all(&self) {
+        let Met { new, repeats, discoveries, changes } = *self;
+        let met = [new, repeats, discoveries, changes];
+        assert!(met.iter().all(|times| *times > 100), "{met:?}");
+    }
+}

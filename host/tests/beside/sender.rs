@@ -1,0 +1,67 @@
+//! The sender's calls and outcomes, for any records, requests and answers.
+
+use crate::common::seen::Seen;
+use crate::common::Ends;
+use crate::{Other, Ours, ROUNDS, SEED};
+use charkhavo_host::random::sender::{discovery_answer, lent, Lent};
+use charkhavo_host::random::Random;
+
+#[test]
+fn sender_calls() {
+    let mut random = Random::new(SEED + 1);
+    let (mut seen, mut statuses) = (Seen::default(), Seen::default());
+    let mut read = 0;
+    for round in 0..ROUNDS {
+        let given = lent(&mut random);
+        let Lent { sender, request, answer } = &given;
+        let say = || format!("round {round}: {given:?}");
+        let offered = Ours::offer(*sender, request);
+        assert_eq!(offered, Other::offer(*sender, request), "{}", say());
+        let sent = Ours::send(*sender, request);
+        assert_eq!(sent, Other::send(*sender, request), "{}", say());
+        let taken = Ours::take(*sender, request, answer);
+        assert_eq!(taken, Other::take(*sender, request, answer), "{}", say());
+        for number in [offered.0, sent.0, taken.0] {
+            seen.note(number);
+        }
+        let (status, length) = same_outcome(&mut random, request, answer);
+        statuses.note(status);
+        read += length;
+    }
+    seen.exactly([0, 30, 31, 32, 33, 34, 35, 36, 37]);
+    statuses.exactly([0, 1, 2, 3]);
+    assert!(read > ROUNDS, "{read} bytes of read data");
+}
+
+/// Count, and status and read data of a command or of one that is not there; gives the last two.
+fn same_outcome(random: &mut Random, request: &[u8], answer: &[u8]) -> (u32, usize) {
+    let count = Ours::count(request, answer);
+    assert_eq!(count, Other::count(request, answer));
+    let k = match random.below(8) {
+        0 => count,
+        1 => random.long() as usize,
+        2 => count.saturating_sub(1),
+        _ => random.below(count + 1),
+    };
+    let status = Ours::status(request, answer, k);
+    assert_eq!(status, Other::status(request, answer, k), "{request:?} {answer:?} {k}");
+    let (start, length) = Ours::read_data(request, answer, k);
+    let other = Other::read_data(request, answer, k);
+    assert_eq!((start, length), other, "{request:?} {answer:?} {k}");
+    (status, length)
+}
+
+#[test]
+fn senders_from_discovery_answers() {
+    let mut random = Random::new(SEED + 2);
+    let mut seen = Seen::default();
+    assert_eq!(Ours::discovery(), Other::discovery());
+    assert_eq!(Ours::fresh(), Other::fresh());
+    for round in 0..ROUNDS {
+        let answer = discovery_answer(&mut random);
+        let discovered = Ours::discovered(&answer);
+        assert_eq!(discovered, Other::discovered(&answer), "round {round}: {answer:02X?}");
+        seen.note(discovered.0);
+    }
+    seen.exactly([0, 32, 33, 34, 35, 38]);
+}

@@ -1,0 +1,30 @@
+//! Two ends as a program holds them: a controller, a sender, and messages built for it.
+
+use charkhavo_host::plain::Addition;
+
+/// The status and the read data of each answered command.
+pub type Told = Vec<(u32, Vec<u8>)>;
+
+pub trait TwoEnds {
+    fn fresh() -> Self;
+
+    /// The controller's stored tag.
+    fn tag(&self) -> Option<u32>;
+    fn serve(&mut self, memory: &mut [u32], datagram: &[u8]) -> Result<Vec<u8>, u32>;
+
+    fn discovery() -> [u8; 12];
+    /// A new sender, from an answer to the discovery.
+    fn restart(&mut self, answer: &[u8]);
+    fn next_tag(&self) -> u32;
+    fn waits(&self) -> bool;
+    /// A message of the next tag; commands that have no room are left out.
+    fn build(&self, kind: u32, wide: bool, commands: &[Addition]) -> Vec<u8>;
+    fn offer(&mut self, message: &[u8]) -> Result<(), u32>;
+    fn send(&self) -> Result<Vec<u8>, u32>;
+    fn take(&mut self, answer: &[u8]) -> Result<Told, u32>;
+}
+
+/// Adding is refused only where there is no room.
+pub fn check_added(number: u32) {
+    assert!(number == 0 || number == 26, "adding is refused {number}");
+}

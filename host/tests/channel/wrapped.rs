@@ -1,0 +1,93 @@
+//! Two ends made of the libraries' wrappers.
+
+use super::pair::{check_added, Told, TwoEnds};
+use charkhavo_host::builder::{Builder, Enables, Head, Kind, Nop, Read, Write};
+use charkhavo_host::plain::Addition;
+use charkhavo_host::{Controller, Refusal, Sender, Status};
+
+pub struct Wrapped {
+    controller: Controller,
+    sender: Sender,
+}
+
+fn number(refusal: Refusal) -> u32 {
+    refusal.0
+}
+
+impl TwoEnds for Wrapped {
+    fn fresh() -> Wrapped {
+        Wrapped { controller: Controller::fresh(), sender: Sender::fresh() }
+    }
+
+    fn tag(&self) -> Option<u32> {
+        self.controller.tag()
+    }
+
+    fn serve(&mut self, memory: &mut [u32], datagram: &[u8]) -> Result<Vec<u8>, u32> {
+        self.controller.serve(memory, datagram).map(<[u8]>::to_vec).map_err(number)
+    }
+
+    fn discovery() -> [u8; 12] {
+        Sender::discovery()
+    }
+
+    fn restart(&mut self, answer: &[u8]) {
+        self.sender = Sender::discovered(answer).expect("a sender");
+    }
+
+    fn next_tag(&self) -> u32 {
+        self.sender.next_tag()
+    }
+
+    fn waits(&self) -> bool {
+        self.sender.waits()
+    }
+
+    fn build(&self, kind: u32, wide: bool, commands: &[Addition]) -> Vec<u8> {
+        let head = Head { tag: self.sender.next_tag(), wide, discovery: false };
+        match kind {
+            0 => built::<Nop>(head, commands, |builder, added| builder.nop(added.data)),
+            1 => built::<Write>(head, commands, |builder, added| {
+                let enables = Enables { first: added.first, last: added.last };
+                builder.write(added.address, enables, added.data)
+            }),
+            _ => built::<Read>(head, commands, |builder, added| {
+                builder.read(added.address, added.count)
+            }),
+        }
+    }
+
+    fn offer(&mut self, message: &[u8]) -> Result<(), u32> {
+        self.sender.offer(message).map_err(number)
+    }
+
+    fn send(&self) -> Result<Vec<u8>, u32> {
+        self.sender.send().map(<[u8]>::to_vec).map_err(number)
+    }
+
+    fn take(&mut self, answer: &[u8]) -> Result<Told, u32> {
+        let outcome = self.sender.take(answer).map_err(number)?;
+        let told = |k| (code(outcome.status(k)), outcome.read_data(k).to_vec());
+        Ok((0..outcome.count()).map(told).collect())
+    }
+}
+
+fn built<K: Kind>(
+    head: Head,
+    commands: &[Addition],
+    add: impl Fn(&mut Builder<K>, &Addition) -> Result<(), Refusal>,
+) -> Vec<u8> {
+    let mut builder = Builder::begin(head).expect("begun");
+    for command in commands {
+        check_added(add(&mut builder, command).map_or_else(number, |()| 0));
+    }
+    builder.close().expect("closed").to_vec()
+}
+
+fn code(status: Option<Status>) -> u32 {
+    match status.expect("answered") {
+        Status::Ok => 0,
+        Status::Timeout => 1,
+        Status::Error => 2,
+    }
+}

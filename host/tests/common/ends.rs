@@ -1,0 +1,38 @@
+//! The calls of both ends in the form that the libraries have: any records and buffers go in,
+//! the refusal's number (0 for none) and the record come out. One trait for all that implement
+//! the rules, so that one test serves them all.
+
+use charkhavo_host::plain::{Addition, Building, Sender, TagRecord};
+
+pub trait Ends {
+    fn serve(
+        memory: &mut [u32],
+        stored: &mut [u32],
+        output: &mut [u8],
+        tags: &mut TagRecord,
+        datagram: &[u8],
+    ) -> (u32, usize);
+
+    fn refusal(request: &[u8]) -> u32;
+
+    fn begin(output: &[u8], kind: u32, tag: u32, wide: bool, discovery: bool) -> (u32, Building);
+    fn add(output: &mut [u8], building: Building, addition: Addition) -> (u32, Building);
+    fn close(output: &mut [u8], building: Building) -> (u32, Building);
+
+    fn discovery() -> [u8; 12];
+    fn fresh() -> Sender;
+    fn discovered(answer: &[u8]) -> (u32, Sender);
+    fn offer(sender: Sender, request: &[u8]) -> (u32, Sender);
+    /// The number and the length to send.
+    fn send(sender: Sender, request: &[u8]) -> (u32, usize);
+    fn take(sender: Sender, request: &[u8], answer: &[u8]) -> (u32, Sender);
+
+    fn count(request: &[u8], answer: &[u8]) -> usize;
+    /// 3 for a command that is not answered.
+    fn status(request: &[u8], answer: &[u8], k: usize) -> u32;
+    /// Start and length, in bytes of the answer.
+    fn read_data(request: &[u8], answer: &[u8], k: usize) -> (usize, usize);
+}
+
+/// The status of a command that is not answered.
+pub const ABSENT: u32 = 3;

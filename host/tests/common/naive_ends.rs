@@ -1,0 +1,147 @@
+//! The slow second reading of document 01 as ends.
+
+use super::ends::{Ends, ABSENT};
+use super::naive;
+use super::naive_building::{added, refused_21, Sequences};
+use charkhavo_host::limits::WORDS;
+use charkhavo_host::plain::{Addition, Building, Sender, TagRecord};
+use charkhavo_host::random::bytes_of;
+use charkhavo_host::random::controller::Lent;
+use std::sync::LazyLock;
+
+pub struct Naive;
+
+/// Made once: it takes a while.
+static SEQUENCES: LazyLock<Vec<Sequences>> = LazyLock::new(Sequences::all);
+
+impl Ends for Naive {
+    fn serve(
+        memory: &mut [u32],
+        stored: &mut [u32],
+        output: &mut [u8],
+        tags: &mut TagRecord,
+        datagram: &[u8],
+    ) -> (u32, usize) {
+        let mut lent = Lent {
+            memory: memory.to_vec(),
+            stored: stored.to_vec(),
+            output: output.to_vec(),
+            tags: *tags,
+            datagram: datagram.to_vec(),
+        };
+        let given = naive::serve(&mut lent);
+        memory.copy_from_slice(&lent.memory);
+        stored.copy_from_slice(&lent.stored);
+        output.copy_from_slice(&lent.output);
+        *tags = lent.tags;
+        given
+    }
+
+    fn refusal(request: &[u8]) -> u32 {
+        naive::read(request).map_or_else(|number| number, |_| 0)
+    }
+
+    fn begin(output: &[u8], kind: u32, tag: u32, wide: bool, discovery: bool) -> (u32, Building) {
+        let begun = Building { kind, tag, wide, discovery, ..Building::EMPTY };
+        match refused_21(&SEQUENCES, output, &begun) {
+            true => (21, Building::EMPTY),
+            false => (0, begun),
+        }
+    }
+
+    fn add(output: &mut [u8], building: Building, addition: Addition) -> (u32, Building) {
+        if refused_21(&SEQUENCES, output, &building) {
+            return (21, building);
+        }
+        if building.closed {
+            return (22, building);
+        }
+        let Addition { address, first, last, count, data } = addition;
+        match added(&building, address, (first, last), count, data) {
+            Ok(words) => (0, grown(output, building, &words)),
+            Err(number) => (number, building),
+        }
+    }
+
+    fn close(output: &mut [u8], building: Building) -> (u32, Building) {
+        if refused_21(&SEQUENCES, output, &building) {
+            return (21, building);
+        }
+        if building.closed || building.words == 0 {
+            return (22, building);
+        }
+        output[4 * building.last + 3] |= 0x80;
+        (0, Building { closed: true, ..building })
+    }
+
+    fn discovery() -> [u8; 12] {
+        let [low, high, ..] = (4 * WORDS).to_le_bytes();
+        [0x80, 0, 2, 0x80, low, high, 0, 0, 0, 0, 0, 0]
+    }
+
+    fn fresh() -> Sender {
+        Sender { next: 0, waits: false }
+    }
+
+    fn discovered(answer: &[u8]) -> (u32, Sender) {
+        let next = naive::discovered(answer);
+        sender(next.map(|next| Sender { next, waits: false }), Sender { next: 16, waits: false })
+    }
+
+    fn offer(before: Sender, request: &[u8]) -> (u32, Sender) {
+        sender(naive::offer(before, request), before)
+    }
+
+    fn send(sender: Sender, request: &[u8]) -> (u32, usize) {
+        match naive::send(sender, request) {
+            Ok(_) => (0, request.len()),
+            Err(number) => (number, 0),
+        }
+    }
+
+    fn take(before: Sender, request: &[u8], answer: &[u8]) -> (u32, Sender) {
+        sender(naive::take(before, request, answer), before)
+    }
+
+    fn count(request: &[u8], answer: &[u8]) -> usize {
+        told(request, answer).len()
+    }
+
+    fn status(request: &[u8], answer: &[u8], k: usize) -> u32 {
+        told(request, answer).get(k).map_or(ABSENT, |(status, _, _)| *status)
+    }
+
+    fn read_data(request: &[u8], answer: &[u8], k: usize) -> (usize, usize) {
+        match told(request, answer).get(k) {
+            Some((0, start, end)) if request[0] >> 4 & 3 == 2 => (*start, end - start),
+            _ => (0, 0),
+        }
+    }
+}
+
+/// The record with these words added, which the output then has.
+fn grown(output: &mut [u8], building: Building, words: &[u32]) -> Building {
+    let start = 4 * building.words;
+    output[start..start + 4 * words.len()].copy_from_slice(&bytes_of(words));
+    let data = if building.kind == 1 { 0 } else { words[0] as usize >> 16 & 0xFFF };
+    Building {
+        words: building.words + words.len(),
+        last: building.words,
+        answer: building.answer + 1 + data,
+        ..building
+    }
+}
+
+fn sender(after: Result<Sender, u32>, otherwise: Sender) -> (u32, Sender) {
+    match after {
+        Ok(sender) => (0, sender),
+        Err(number) => (number, otherwise),
+    }
+}
+
+/// Each answered command; none where anything is refused.
+fn told(request: &[u8], answer: &[u8]) -> Vec<(u32, usize, usize)> {
+    naive::sendable(request, None)
+        .and_then(|request| naive::judge(&request, answer))
+        .unwrap_or_default()
+}

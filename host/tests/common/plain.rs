@@ -1,0 +1,85 @@
+//! The ordinary implementation as ends.
+
+use super::ends::{Ends, ABSENT};
+use charkhavo_host::plain::{self, message, outcome, sender};
+use charkhavo_host::plain::{Addition, Building, Sender, TagRecord};
+use charkhavo_host::Refusal;
+
+pub struct Plain;
+
+impl Ends for Plain {
+    fn serve(
+        memory: &mut [u32],
+        stored: &mut [u32],
+        output: &mut [u8],
+        tags: &mut TagRecord,
+        datagram: &[u8],
+    ) -> (u32, usize) {
+        let served = plain::serve(memory, stored, output, tags, datagram);
+        (served.refusal, served.sent)
+    }
+
+    fn refusal(request: &[u8]) -> u32 {
+        number(&message::walk(request))
+    }
+
+    fn begin(output: &[u8], kind: u32, tag: u32, wide: bool, discovery: bool) -> (u32, Building) {
+        let begun = Building::begin(output, kind, tag, wide, discovery);
+        (number(&begun), begun.unwrap_or(Building::EMPTY))
+    }
+
+    fn add(output: &mut [u8], mut building: Building, addition: Addition) -> (u32, Building) {
+        let added = building.add(output, addition);
+        (number(&added), building)
+    }
+
+    fn close(output: &mut [u8], mut building: Building) -> (u32, Building) {
+        let closed = building.close(output);
+        (number(&closed), building)
+    }
+
+    fn discovery() -> [u8; 12] {
+        sender::DISCOVERY
+    }
+
+    fn fresh() -> Sender {
+        Sender::fresh()
+    }
+
+    fn discovered(answer: &[u8]) -> (u32, Sender) {
+        let sender = Sender::from_discovery(answer);
+        (number(&sender), sender.unwrap_or(Sender::UNUSABLE))
+    }
+
+    fn offer(mut sender: Sender, request: &[u8]) -> (u32, Sender) {
+        let offered = sender.offer(request);
+        (number(&offered), sender)
+    }
+
+    fn send(sender: Sender, request: &[u8]) -> (u32, usize) {
+        let sent = sender.send(request);
+        (number(&sent), sent.map_or(0, <[u8]>::len))
+    }
+
+    fn take(mut sender: Sender, request: &[u8], answer: &[u8]) -> (u32, Sender) {
+        let taken = sender.take(request, answer);
+        (number(&taken), sender)
+    }
+
+    fn count(request: &[u8], answer: &[u8]) -> usize {
+        outcome::count(request, answer)
+    }
+
+    fn status(request: &[u8], answer: &[u8], k: usize) -> u32 {
+        outcome::status(request, answer, k).unwrap_or(ABSENT)
+    }
+
+    fn read_data(request: &[u8], answer: &[u8], k: usize) -> (usize, usize) {
+        let data = outcome::read_data(request, answer, k);
+        (data.start, data.len())
+    }
+}
+
+fn number<T>(result: &Result<T, Refusal>) -> u32 {
+    result.as_ref().map_or_else(|refusal| refusal.0, |_| 0)
+}

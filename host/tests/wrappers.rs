@@ -1,0 +1,154 @@
+//! The wrappers by hand: what each call gives, and that a refusal changes nothing. That they do
+//! the same as the ordinary implementation over long nights is `library`'s test of the channel.
+
+use charkhavo_host::builder::{Builder, Enables, Head, Nop, Read, Write};
+use charkhavo_host::limits::{BYTES, MEMORY, WORDS};
+use charkhavo_host::random::bytes_of;
+use charkhavo_host::{Controller, Outcome, Refusal, Sender, Status};
+
+const A: [u32; 3] = [0x8001_0F10, 0x0000_0004, 0xFEED_C0DE];
+/// Reads of 2 and of 1 word, tag 0.
+const READS: [u32; 4] = [0x0002_0020, 0, 0x8001_0020, 8];
+const ANSWER: [u32; 5] = [0x0002_0030, 11, 12, 0x8001_0030, 13];
+
+fn head(tag: u32) -> Head {
+    Head { tag, wide: false, discovery: false }
+}
+
+fn refused<T>(number: u32) -> Result<T, Refusal> {
+    Err(Refusal(number))
+}
+
+#[test]
+fn a_controller_serves_repeats_and_refuses() {
+    let mut controller = Controller::fresh();
+    let mut memory = [0; 8];
+    assert_eq!(controller.tag(), None);
+    let sent = bytes_of(&[0x8000_0030]);
+    assert_eq!(controller.serve(&mut memory, &bytes_of(&A)), Ok(sent.as_slice()));
+    assert_eq!((controller.tag(), memory[1]), (Some(0), 0xFEED_C0DE));
+    memory[1] = 5;
+    assert_eq!(controller.serve(&mut memory, &bytes_of(&A)), Ok(sent.as_slice()));
+    assert_eq!(memory[1], 5, "a repeat");
+    let before = controller.clone();
+    let late = bytes_of(&[0x8001_0F12, 4, 0]);
+    assert_eq!(controller.serve(&mut memory, &late), refused(11));
+    assert_eq!(controller.serve(&mut memory, &[]), refused(2));
+    assert_eq!(controller.serve(&mut [], &bytes_of(&A)), refused(1));
+    assert_eq!(controller.serve(&mut vec![0; MEMORY + 1], &bytes_of(&A)), refused(1));
+    assert!(controller == before && memory == [0, 5, 0, 0, 0, 0, 0, 0]);
+}
+
+#[test]
+fn writes_are_built() {
+    let mut builder = Builder::<Write>::begin(head(3)).unwrap();
+    builder.write(0x10, Enables::whole(1), &[7]).unwrap();
+    builder.write(0x20, Enables { first: 8, last: 1 }, &[1, 2]).unwrap();
+    builder.write(0x30, Enables::whole(2), &[3, 4]).unwrap();
+    assert_eq!(builder.message(), None);
+    let one = [0x0001_0F13, 0x10, 7];
+    let two = [0x0002_1813, 0x20, 1, 2];
+    let three = [0x8002_FF13, 0x30, 3, 4];
+    let message = bytes_of(&[&one[..], &two, &three].concat());
+    assert_eq!(builder.close(), Ok(message.as_slice()));
+    assert_eq!(builder.message(), Some(message.as_slice()));
+}
+
+#[test]
+fn reads_and_nops_are_built() {
+    let wide = Head { tag: 15, wide: true, discovery: true };
+    let mut builder = Builder::<Read>::begin(wide).unwrap();
+    builder.read(1 << 40, 9).unwrap();
+    assert_eq!(builder.close(), Ok(bytes_of(&[0x8009_00EF, 0, 0x100]).as_slice()));
+    let mut builder = Builder::<Nop>::begin(head(4)).unwrap();
+    builder.nop(&[]).unwrap();
+    builder.nop(&[8, 9]).unwrap();
+    assert_eq!(builder.close(), Ok(bytes_of(&[0x0000_0004, 0x8002_0004, 8, 9]).as_slice()));
+}
+
+#[test]
+fn building_is_refused() {
+    assert_eq!(Builder::<Nop>::begin(head(16)), refused(21));
+    let mut writes = Builder::<Write>::begin(head(0)).unwrap();
+    let before = writes.clone();
+    assert_eq!(writes.close(), refused(22));
+    assert_eq!(writes.write(0, Enables::whole(0), &[]), refused(23));
+    assert_eq!(writes.write(0, Enables { first: 1, last: 0 }, &[1, 2]), refused(24));
+    assert_eq!(writes.write(1 << 32, Enables::whole(1), &[1]), refused(25));
+    assert_eq!(writes.write(0, Enables::whole(WORDS), &[0; WORDS]), refused(26));
+    assert!(writes == before);
+    let mut reads = Builder::<Read>::begin(head(0)).unwrap();
+    assert_eq!(reads.read(0, 0), refused(23));
+    assert_eq!(reads.read(0, WORDS), refused(26));
+    assert_eq!(reads.read(0, WORDS - 1), Ok(()));
+    assert!(reads.close().is_ok());
+    assert_eq!(reads.read(0, 1), refused(22));
+    assert_eq!(reads.close(), refused(22));
+    let mut nops = Builder::<Nop>::begin(head(0)).unwrap();
+    assert_eq!(nops.nop(&[0; 3]), refused(23));
+}
+
+#[test]
+fn a_sender_keeps_its_message_until_it_is_answered() {
+    let (reads, answer) = (bytes_of(&READS), bytes_of(&ANSWER));
+    let mut sender = Sender::fresh();
+    assert_eq!(sender.send(), refused(30));
+    assert_eq!(sender.take(&answer), refused(30));
+    assert_eq!(sender.offer(&bytes_of(&[0x8001_0021, 0])), refused(31));
+    assert_eq!(sender.offer(&vec![0; BYTES + 4]), refused(31));
+    assert_eq!(sender, Sender::fresh());
+    assert_eq!(sender.offer(&reads), Ok(()));
+    let waiting = sender.clone();
+    assert_eq!(sender.offer(&bytes_of(&A)), refused(36));
+    assert_eq!(sender.take(&[]), refused(32));
+    assert_eq!(sender.take(&bytes_of(&[0x8000_0031])), refused(33));
+    assert_eq!(sender.take(&bytes_of(&[0x8000_0030])), refused(34));
+    assert_eq!(sender.take(&answer[..16]), refused(35));
+    assert!(sender == waiting && sender.waits());
+    assert_eq!(sender.send(), Ok(reads.as_slice()));
+    assert_eq!(sender.take(&answer), Ok(Outcome::new(&reads, &answer)));
+    assert_eq!((sender.next_tag(), sender.waits()), (1, false));
+    assert_eq!(sender.send(), refused(30));
+}
+
+#[test]
+fn a_shorter_message_after_a_longer_one() {
+    let mut sender = Sender::fresh();
+    sender.offer(&bytes_of(&READS)).unwrap();
+    sender.take(&bytes_of(&ANSWER)).unwrap();
+    let nop = bytes_of(&[0x8000_0001]);
+    sender.offer(&nop).unwrap();
+    assert_eq!(sender.send(), Ok(nop.as_slice()));
+}
+
+#[test]
+fn a_sender_goes_on_where_the_controller_is() {
+    let mut memory = [0; 8];
+    let mut controller = Controller::fresh();
+    let answer = controller.serve(&mut memory, &Sender::discovery()).unwrap();
+    assert_eq!(Sender::discovered(answer), Ok(Sender::fresh()));
+    controller.serve(&mut memory, &bytes_of(&[0x8001_0F1E, 4, 1])).unwrap();
+    let answer = controller.serve(&mut memory, &Sender::discovery()).unwrap();
+    assert_eq!(Sender::discovered(answer).unwrap().next_tag(), 15);
+    assert_eq!(Sender::discovered(&[]), refused(32));
+    assert_eq!(Sender::discovered(&bytes_of(&[0x8002_00B0, 0, 32])), refused(38));
+}
+
+#[test]
+fn outcomes_are_parts_of_the_answer() {
+    let (reads, answer) = (bytes_of(&READS), bytes_of(&ANSWER));
+    let outcome = Outcome::new(&reads, &answer);
+    assert_eq!(outcome.count(), 2);
+    assert_eq!(outcome.status(0), Some(Status::Ok));
+    assert_eq!((outcome.status(2), outcome.read_data(2)), (None, &[][..]));
+    assert!(std::ptr::eq(outcome.read_data(0), &answer[4..12]));
+    assert!(std::ptr::eq(outcome.read_data(1), &answer[16..20]));
+    for (number, status) in [(1, Status::Timeout), (2, Status::Error)] {
+        let failed = bytes_of(&[0x0002_0030, 11, 12, 0x8000_0030 | number << 8]);
+        let outcome = Outcome::new(&reads, &failed);
+        assert_eq!((outcome.count(), outcome.status(1)), (2, Some(status)));
+        assert_eq!((outcome.read_data(0), outcome.read_data(1)), (&failed[4..12], &[][..]));
+    }
+    let refused = Outcome::new(&reads, &answer[..16]);
+    assert_eq!((refused.count(), refused.status(0)), (0, None));
+}

@@ -1,0 +1,283 @@
+/* Charkhavo's two static libraries, for C11 and C++ on x86-64 (System V calling convention).
+ *
+ * libcontroller.a is the brake and hoist controller's end: one call for each datagram that
+ * arrives, charkhavo_serve. libloader.a is the cold-start loader's end: all other calls, which
+ * build a message, send it until its answer is accepted, and tell what the answer says. Either
+ * may be linked without the other; from elsewhere they need memmove alone.
+ *
+ * What a caller must keep:
+ * - a pointer is valid for the length that follows it, and aligned for its type; of length 0 it
+ *   may be any pointer, NULL too. The tag record's pointer is always valid;
+ * - a bool is 0 or 1;
+ * - what a call may change (its pointer is not to const) overlaps nothing else that the same
+ *   call is lent.
+ *
+ * Everything else is taken as it comes: any lengths, any numbers, any records, any bytes. What is
+ * wrong is refused by its number, and a refused call has changed nothing that it was lent.
+ *
+ * No call keeps a pointer, allocates, locks or waits, and there is no state but what is lent:
+ * calls on different buffers may run at the same time.
+ *
+ * A word is 4 bytes, little-endian in messages. Words of memory, stored answer and payload are
+ * the machine's own numbers. */
+#ifndef CHARKHAVO_H
+#define CHARKHAVO_H
+
+#include <stdbool.h>
+#include <stddef.h>
+#include <stdint.h>
+
+#ifdef __cplusplus
+extern "C" {
+#endif
+
+/* Limits. */
+
+/* the most words of a message or an answer; the least length of the stored answer */
+#define CHARKHAVO_WORDS 368
+/* the same in bytes: the most of a datagram, the least length of an output */
+#define CHARKHAVO_BYTES 1472
+/* the most words of memory; the least is 1 */
+#define CHARKHAVO_MEMORY_WORDS 16384
+
+/* Kinds of a message: 0 NOP, 1 write, 2 read, 3 response. */
+
+#define CHARKHAVO_NOP UINT32_C(0)
+#define CHARKHAVO_WRITE UINT32_C(1)
+#define CHARKHAVO_READ UINT32_C(2)
+#define CHARKHAVO_RESPONSE UINT32_C(3)
+
+/* How a command ended: 0 OK, 1 Timeout, 2 Error; 3 if it was not answered. */
+
+#define CHARKHAVO_OK UINT32_C(0)
+#define CHARKHAVO_TIMEOUT UINT32_C(1)
+#define CHARKHAVO_ERROR UINT32_C(2)
+#define CHARKHAVO_ABSENT UINT32_C(3)
+
+/* Refusals. Above each stands when it is given. */
+
+/* nothing is refused */
+#define CHARKHAVO_ACCEPTED UINT32_C(0)
+
+/* Turned away by the controller; of a request 2 to 10. */
+
+/* memory, stored answer or output has a forbidden length, or the record is not fresh and not
+   (tag 0 to 15, length 1 to 368) */
+#define CHARKHAVO_REFUSED_LENT UINT32_C(1)
+/* 0 bytes, not a multiple of 4, or over 1,472 */
+#define CHARKHAVO_REFUSED_LENGTH UINT32_C(2)
+/* a header or body runs past the end */
+#define CHARKHAVO_REFUSED_PAST_END UINT32_C(3)
+/* byte 0 differs from the first header's */
+#define CHARKHAVO_REFUSED_BYTE_0 UINT32_C(4)
+/* kind 3 */
+#define CHARKHAVO_REFUSED_KIND UINT32_C(5)
+/* reserved bits set */
+#define CHARKHAVO_REFUSED_RESERVED UINT32_C(6)
+/* count not allowed */
+#define CHARKHAVO_REFUSED_COUNT UINT32_C(7)
+/* byte enables not allowed */
+#define CHARKHAVO_REFUSED_ENABLES UINT32_C(8)
+/* words follow the LAST command */
+#define CHARKHAVO_REFUSED_AFTER_LAST UINT32_C(9)
+/* the answer with all commands OK would pass 368 words */
+#define CHARKHAVO_REFUSED_LONG_ANSWER UINT32_C(10)
+/* out of step (discovery clear) */
+#define CHARKHAVO_REFUSED_OUT_OF_STEP UINT32_C(11)
+
+/* Building a message; the lowest number first. */
+
+/* short output, kind over 2, tag over 15 or a building record that no sequence of calls gives */
+#define CHARKHAVO_REFUSED_BUILDING UINT32_C(21)
+/* adding after closing, closing twice or closing with nothing added */
+#define CHARKHAVO_REFUSED_CLOSING UINT32_C(22)
+/* count */
+#define CHARKHAVO_REFUSED_ADDED_COUNT UINT32_C(23)
+/* enables */
+#define CHARKHAVO_REFUSED_ADDED_ENABLES UINT32_C(24)
+/* address of 2^32 or more in 32-bit mode */
+#define CHARKHAVO_REFUSED_ADDED_ADDRESS UINT32_C(25)
+/* request or all-OK answer would pass 368 words */
+#define CHARKHAVO_REFUSED_NO_ROOM UINT32_C(26)
+
+/* The sender. */
+
+/* sending or taking an answer while none waits */
+#define CHARKHAVO_REFUSED_NONE_WAITS UINT32_C(30)
+/* request would be refused 2 to 10, has the discovery bit, or its tag is not the next tag (that of
+   the waiting message while one waits) */
+#define CHARKHAVO_REFUSED_REQUEST UINT32_C(31)
+/* answer length 0, not a multiple of 4, or over 1,472 */
+#define CHARKHAVO_REFUSED_ANSWER_LENGTH UINT32_C(32)
+/* byte 0 is not the request's with kind 3 */
+#define CHARKHAVO_REFUSED_ANSWER_BYTE_0 UINT32_C(33)
+/* later byte 0 differs, reserved or bits 15:12 set, status 3 or more, or count wrong (nonzero
+   status: count 0) */
+#define CHARKHAVO_REFUSED_ANSWER_HEADER UINT32_C(34)
+/* a header or body past the end, LAST missing or early, or words after it */
+#define CHARKHAVO_REFUSED_ANSWER_END UINT32_C(35)
+/* offering while one waits */
+#define CHARKHAVO_REFUSED_ONE_WAITS UINT32_C(36)
+/* sender record's next tag over 15 */
+#define CHARKHAVO_REFUSED_NEXT_TAG UINT32_C(37)
+/* discovery status not OK, or word 1 has bits above 4 set, or bit 4 clear and a tag nonzero */
+#define CHARKHAVO_REFUSED_DISCOVERY UINT32_C(38)
+
+/* A refusal by its number; 0 where nothing is refused. */
+typedef struct CharkhavoRefusal {
+    uint32_t number;
+} CharkhavoRefusal;
+
+/* The controller: libcontroller.a. */
+
+/* What the controller keeps between calls beside memory and stored answer. Fresh: no tag is
+   stored, any is new, and the other two fields are not looked at. A controller starts with
+   {true, 0, 0}. */
+typedef struct CharkhavoTagRecord {
+    bool fresh;
+    uint32_t tag;  /* of the last new message, 0 to 15 */
+    size_t words;  /* of the stored answer, 1 to 368 */
+} CharkhavoTagRecord;
+
+/* What serving comes to: the first `sent` bytes of the output are to be sent, 0 with a refusal. */
+typedef struct CharkhavoSent {
+    CharkhavoRefusal refusal;
+    size_t sent;
+} CharkhavoSent;
+
+/* Serves one datagram. A new message is carried out upon memory, and its tag and answer are
+   stored; a repeat gets the stored answer again; a discovery is carried out, and tag and stored
+   answer stay. Refusals: 1, 2, then at each header 3 (no word there), 4 to 8, 3 (its body), 9;
+   then 10, 11. Output bytes past those sent, and stored words past the new answer, keep what they
+   held. Lengths of memory, stored answer and payloads are in words, all others in bytes. */
+CharkhavoSent charkhavo_serve(uint32_t *memory, size_t memory_length,
+                              uint32_t *stored, size_t stored_length,
+                              uint8_t *output, size_t output_length,
+                              CharkhavoTagRecord *tags,
+                              const uint8_t *datagram, size_t datagram_length);
+
+/* The loader: libloader.a. */
+
+/* The refusal of a request by any controller, 2 to 10 in the order that serving has; 0 if it is
+   well-formed. */
+CharkhavoRefusal charkhavo_refusal(const uint8_t *request, size_t request_length);
+
+/* A message that is being built, in an output that the caller lends to each call. Closed, it is
+   the first 4 * words bytes of that output. */
+typedef struct CharkhavoBuilding {
+    uint32_t kind;   /* of every command: NOP, write or read */
+    uint32_t tag;    /* 0 to 15 */
+    bool wide;       /* addresses of 64 bits; else of 32 */
+    bool discovery;
+    size_t words;    /* so far */
+    size_t last;     /* the place of the last header, in words; 0 if none */
+    size_t answer;   /* words of the all-OK answer so far */
+    bool closed;
+} CharkhavoBuilding;
+
+/* A command to be added. What its kind has no use for is not looked at. */
+typedef struct CharkhavoAsked {
+    uint64_t address;  /* writes and reads */
+    uint32_t first;    /* writes: the byte enables of the first word; bit i covers byte i */
+    uint32_t last;     /* writes: those of the last word; 0 with one word */
+    size_t count;      /* reads: how many words */
+} CharkhavoAsked;
+
+/* What a building call comes to: its refusal, and the record to go on with. */
+typedef struct CharkhavoBuilt {
+    CharkhavoRefusal refusal;
+    CharkhavoBuilding building;
+} CharkhavoBuilt;
+
+/* Begins a message. The output is only measured. Refusal: 21, with a record of kind 0, tag 0. */
+CharkhavoBuilt charkhavo_begin(const uint8_t *output, size_t output_length,
+                               uint32_t kind, uint32_t tag, bool wide, bool discovery);
+
+/* Adds a command behind those there are. The payload is the data of a write or NOP, and its length
+   their count; a read's is not looked at. Refusals: 21 to 26, lowest first (NOPs skip 24 and 25,
+   reads skip 24), with the record as it was. Only the command's bytes of the output change. */
+CharkhavoBuilt charkhavo_add(uint8_t *output, size_t output_length,
+                             CharkhavoBuilding building, CharkhavoAsked asked,
+                             const uint32_t *payload, size_t payload_length);
+
+/* Closes the message. Refusals: 21, 22, with the record as it was. Only the LAST bit of the last
+   header changes. */
+CharkhavoBuilt charkhavo_close(uint8_t *output, size_t output_length, CharkhavoBuilding building);
+
+/* The fixed discovery, which asks a controller for its stored tag. */
+typedef struct CharkhavoDiscovery {
+    uint8_t bytes[12];
+} CharkhavoDiscovery;
+
+CharkhavoDiscovery charkhavo_discovery(void);
+
+/* The sender. At most one message waits; it stays the caller's and is lent to each call, the same
+   bytes until its answer is accepted. */
+typedef struct CharkhavoSender {
+    uint32_t next;  /* the tag of the next message, or of the waiting one while one waits */
+    bool waits;
+} CharkhavoSender;
+
+/* What a sender's call comes to: its refusal, and the sender to go on with. */
+typedef struct CharkhavoMoved {
+    CharkhavoRefusal refusal;
+    CharkhavoSender sender;
+} CharkhavoMoved;
+
+/* The sender of a fresh pair: next tag 0, nothing waits. */
+CharkhavoSender charkhavo_fresh(void);
+
+/* The sender that an answer to the fixed discovery makes: its next tag is the stored one plus 1,
+   modulo 16, or 0 if none is stored. Refusals: 32, 33, then 34 and 35 at each header, 38, with a
+   sender of next tag 16, which every later call refuses by 37. */
+CharkhavoMoved charkhavo_discovered(const uint8_t *answer, size_t answer_length);
+
+/* Offers a message, which then waits. Refusals: 37, 36, 31, with the sender as it was. */
+CharkhavoMoved charkhavo_offer(CharkhavoSender sender,
+                               const uint8_t *message, size_t message_length);
+
+/* What sending comes to: how many bytes go out, all of them the message's own; 0 with a refusal. */
+typedef struct CharkhavoSending {
+    CharkhavoRefusal refusal;
+    size_t length;
+} CharkhavoSending;
+
+/* Whether the waiting message may go out; any number of times. Refusals: 37, 30, 31. */
+CharkhavoSending charkhavo_send(CharkhavoSender sender,
+                                const uint8_t *message, size_t message_length);
+
+/* Takes an answer to the waiting message. Accepted, it ends the message, also when a command
+   failed, and the next tag is one more, modulo 16. Refusals: 37, 30, 31, 32, 33, then 34 and 35 at
+   each header, with the sender as it was. */
+CharkhavoMoved charkhavo_take(CharkhavoSender sender,
+                              const uint8_t *message, size_t message_length,
+                              const uint8_t *answer, size_t answer_length);
+
+/* What an answer tells of its request. No sender is looked at, so these serve after the answer was
+   taken too. Where 31 (its tag clause aside) to 35 would refuse, no command counts as answered.
+   Commands are counted from 0, and k may be any number. */
+
+/* How many commands were answered. */
+size_t charkhavo_count(const uint8_t *request, size_t request_length,
+                       const uint8_t *answer, size_t answer_length);
+
+/* How command k ended: 0 OK, 1 Timeout, 2 Error; 3 if it was not answered. */
+uint32_t charkhavo_status(const uint8_t *request, size_t request_length,
+                          const uint8_t *answer, size_t answer_length, size_t k);
+
+/* A part of the answer's bytes. */
+typedef struct CharkhavoPart {
+    size_t start;
+    size_t length;
+} CharkhavoPart;
+
+/* Where in the answer the data of read k stand. Of length 0, at 0, if command k was not answered or
+   is not an OK read. */
+CharkhavoPart charkhavo_read_data(const uint8_t *request, size_t request_length,
+                                  const uint8_t *answer, size_t answer_length, size_t k);
+
+#ifdef __cplusplus
+}
+#endif
+
+#endif
