@@ -68,11 +68,15 @@ pub(crate) fn put_head(
     put_both(stored, output, keep, n, head(byte, status, count, last));
 }
 
-// A run of words of the answer.
+// A run of words of the answer. One word, what most reads ask for, goes by itself.
 pub(crate) fn put_run(stored: &mut [u32], output: &mut [u8], keep: bool, n: usize, words: &[u32])
     requires { ⌜ (length (now words) ≤ longest) × (n + length (now words) ≤ length (now stored)) × (4 * (n + length (now words)) ≤ length (now output)) ⌝ }
     ensures { λ _. ⌜ Puts keep n (now (words .entry)) (now (stored .entry)) (now (output .entry)) (now (stored .exit)) (now (output .exit)) ⌝ }
 {
+    if words.len() == 1 {
+        put_both(stored, output, keep, n, words[0]);
+        return;
+    }
     word::run::put_words(output, n, words);
     keep_words(stored, keep, n, words);
 }

@@ -177,15 +177,6 @@ fn carry_read(
         count,
         last,
     );
-    if count == 1 {
-        answers::put_both(stored, output, task.keep, n + 1, memory[base]);
-        let words = n + 2;
-        return Carried {
-            stop: last,
-            words,
-            next,
-        };
-    }
     let end = base + count;
     answers::put_run(stored, output, task.keep, n + 1, &memory[base..end]);
     let words = n + 1 + count;

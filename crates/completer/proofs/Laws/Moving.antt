@@ -116,10 +116,6 @@ pub write-one : (m ws : List ℕ) (at from count first final : ℕ) {m' : List �
 unfolding afterMoves stores storesBehind
 write-one m ws at from count first final e f w c h = e ∙ rw (f, w, c, drop-cons ws from 0 h)
 
--- a read of one word
-pub read-one : (m : List ℕ) (at count : ℕ) → count ≡ 1 → at < length m → getD m at 0 ∷ [] ≡ take count (drop at m)
-read-one m at count c h = rw (c, drop-cons m at 0 h)
-
--- and of a run, which is lent as a part of memory
+-- a read of a run, which is lent as a part of memory
 pub read-part : (m : List ℕ) (at count : ℕ) → take (at + count - at) (drop at m) ≡ take count (drop at m)
 read-part m at count = rw (add-sub-cancel-left at count)

@@ -5,7 +5,8 @@ use mathlib.Core.Path.{_≡_, refl, sym, _∙_}
 use mathlib.Core.Bool.{Bool, true, false, not, cond}
 use mathlib.Core.List.{List, [], _∷_, _++_}
 use borrow.Author.Tests.{not-true, not-false}
-use lib.ListN.{length, set}
+use native.Mathlib.Omega.{arith}
+use lib.ListN.{length, getD, set}
 use Rattle.word.specs.Words.{put}
 use Rattle.word.proofs.Runs.{put-none, put-one, put-put, words-none, words-words, length-put}
 use Rattle.completer.specs.Carrying.{keptIn, Puts}
@@ -57,3 +58,9 @@ puts-more {keep} {n} {k} {ws} {vs} {s} {o} p q e hs ho =
       stored = q .stored ∙ rw (p .stored, e) (kept-kept keep s n ws vs hs);
       output = q .output ∙ rw (p .output, e) (words-words o n ws vs ho);
     }
+
+-- a run of one word is its first word
+pub puts-single : {keep : Bool} {n : ℕ} {s o s' o' : List ℕ} (ws : List ℕ) → length ws ≡ 1 → Puts keep n (getD ws 0 0 ∷ []) s o s' o' → Puts keep n ws s o s' o'
+puts-single [] h p = absurd (omega (arith, h))
+puts-single (w ∷ []) h p = p
+puts-single (w ∷ v ∷ ws) h p = absurd (omega (arith, h))

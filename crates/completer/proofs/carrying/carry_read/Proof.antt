@@ -8,7 +8,7 @@ use Rattle.word.specs.Words.{wordsOf}
 use Rattle.message.specs.declared.header.Kind.the-variants.{Read}
 use Rattle.message.specs.Header.{countOf, lastOf}
 use lib.ListN.{length-take, length-drop}
-use Rattle.completer.proofs.Laws.Moving.{within, read-one, read-part}
+use Rattle.completer.proofs.Laws.Moving.{within, read-part}
 use Rattle.completer.proofs.Laws.OneCommand.{Fitting, fitting, failed-there, did-read}
 use borrow.Author.Needs.{needs}
 use Rattle.completer.proofs.carrying.carry_read.Statement.{statement}
@@ -27,6 +27,14 @@ module _ (k : tie.After-count) where
 
   known : Fitting Read dg (s .args .task .byte0) (s .args .at) (s .args .n) (k .count .result)
   known = fitting dg (s .pre .0) (s .pre .2) count-is
+
+-- where the range was found inside memory, from where the header was put
+abbrev inside : tie.After-slice-known6 → tie.Else1
+inside h = h .before .before .before .before .before .before .before .before .before
+
+-- and from where the words were put
+abbrev headed : tie.After-slice-known8 → tie.After-slice-known6
+headed c = c .before .before .before .before .before .before .before .before
 
 word-at-requires : tie.Need-word-at-requires
 word-at-requires c κs = let g = fitting (c .before .before .before .before .args .datagram .now) (c .before .before .before .before .pre .0) (c .before .before .before .before .pre .2) refl in omega arith
@@ -73,42 +81,6 @@ last-requires c κs = search needs
 put-head-requires : tie.Need-put-head-requires
 put-head-requires c κs = search needs
 
-add-put-both : tie.Need-add-put-both
-add-put-both c = search needs
-
-mul-put-both : tie.Need-mul-put-both
-mul-put-both c = search needs
-
-shared-slice-read-put-both : tie.Need-shared-slice-read-put-both
-shared-slice-read-put-both c = let g = known (c .before .before .before .before .before .before .before .before .before .before .before .before .before .before .before .before) in let i = within _ _ _ (sym (c .before .before .before .before .before .before .before .before .before .before .before .before .before .before .outside .ensures) ∙ c .before .before .before .before .before .before .before .before .before .before .before .before .before .if1 .left) in omega arith
-
-put-both-requires : tie.Need-put-both-requires
-put-both-requires c κs = let g = known (c .before .before .before .before .before .before .before .before .before .before .before .before .before .before .before .before) in (omega arith, omega arith)
-
-add-words : tie.Need-add-words
-add-words c = let g = known (c .before .before .before .before .before .before .before .before .before .before .before .before .before .before .before .before .before .before .before .before .before) in omega arith
-
-same-length-3 : tie.Need-same-length-3
-same-length-3 c = search needs
-
-same-length-4 : tie.Need-same-length-4
-same-length-4 c = search needs
-
-returns-2 : tie.Need-returns-2
-returns-2 c =
-    let z = c .before .before .before .before in
-    let i = z .before .before .before .before .before .before .before .before .before .before .before .before .before .before in
-    let f = i .before in
-    let k = f .before .before in
-    let w = k .before .word-at .ensures in
-    let p = z .before .before .before .before .before .before .before .before .before in
-    let a = z .before .before .before .before .before .before .before .before .before .before .before .before .before .address-words .ensures .0 in
-    let one : k .count .result ≡ 1 = omega (arith, z .before .before .before .before .if2 .taken) in
-    let r = within _ _ _ (sym (f .outside .ensures) ∙ i .if1 .left) in
-    did-read (dg k) (s k .args .memory .now) (s k .args .stored .now) (s k .args .output .now) (s k .pre .0) (s k .pre .2) (s k .pre .1) (count-is k)
-    (f .before .address-at .ensures) (f .outside .ensures) (i .if1 .left) (z .before .before .before .before .before .before .before .before .before .before .before .before .last .ensures ∙ ap lastOf w) (ap (λ (x : ℕ). s k .args .at + 1 + x) a)
-    (omega (arith, one)) (p .put-head .ensures) (read-one (s k .args .memory .now) _ (k .count .result) one (omega (arith, r, one))) (z .put-both .ensures)
-
 add-end : tie.Need-add-end
 add-end c = search needs
 
@@ -125,35 +97,41 @@ part-put-run-start : tie.Need-part-put-run-start
 part-put-run-start c = search needs
 
 part-put-run-end : tie.Need-part-put-run-end
-part-put-run-end c = let g = known (c .before .before .before .before .before .before .before .before .before .before .before .before .before .before .before) in let i = within _ _ _ (sym (c .before .before .before .before .before .before .before .before .before .before .before .before .before .outside .ensures) ∙ c .before .before .before .before .before .before .before .before .before .before .before .before .if1 .left) in omega arith
+part-put-run-end c =
+    let i = inside (c .before .before) in
+    let g = known (i .before .before .before) in
+    let r = within _ _ _ (sym (i .before .outside .ensures) ∙ i .if1 .left) in
+    omega arith
 
 put-run-requires : tie.Need-put-run-requires
-put-run-requires c κs = let g = known (c .before .before .before .before .before .before .before .before .before .before .before .before .before .before .before .before) in let i = within _ _ _ (sym (c .before .before .before .before .before .before .before .before .before .before .before .before .before .before .outside .ensures) ∙ c .before .before .before .before .before .before .before .before .before .before .before .before .before .if1 .left) in simp (length-take, length-drop) (omega arith, omega arith, omega arith)
+put-run-requires c κs =
+    let i = inside (c .before .before .before) in
+    let g = known (i .before .before .before) in
+    let r = within _ _ _ (sym (i .before .outside .ensures) ∙ i .if1 .left) in
+    simp (length-take, length-drop) (omega arith, omega arith, omega arith)
+
+add-words : tie.Need-add-words
+add-words c = let g = known (inside (headed c) .before .before .before) in omega arith
 
 add-words-2 : tie.Need-add-words-2
-add-words-2 c = let g = known (c .before .before .before .before .before .before .before .before .before .before .before .before .before .before .before .before .before .before .before .before .before) in omega arith
+add-words-2 c = let g = known (inside (headed c) .before .before .before) in omega arith
 
-add-words-3 : tie.Need-add-words-3
-add-words-3 c = let g = known (c .before .before .before .before .before .before .before .before .before .before .before .before .before .before .before .before .before .before .before .before .before) in omega arith
+same-length-3 : tie.Need-same-length-3
+same-length-3 c = search needs
 
-same-length-5 : tie.Need-same-length-5
-same-length-5 c = search needs
+same-length-4 : tie.Need-same-length-4
+same-length-4 c = search needs
 
-same-length-6 : tie.Need-same-length-6
-same-length-6 c = search needs
-
-returns-3 : tie.Need-returns-3
-returns-3 c =
-    let z = c .before .before .before .before in
-    let i = z .before .before .before .before .before .before .before .before .before .before .before .before .before .before in
+returns-2 : tie.Need-returns-2
+returns-2 c =
+    let h = headed c in
+    let l = h .before .before .before .before .before .before .before in
+    let i = inside h in
     let f = i .before in
     let k = f .before .before in
-    let w = k .before .word-at .ensures in
-    let p = z .before .before .before .before .before .before .before .before .before in
-    let a = z .before .before .before .before .before .before .before .before .before .before .before .before .before .address-words .ensures .0 in
     did-read (dg k) (s k .args .memory .now) (s k .args .stored .now) (s k .args .output .now) (s k .pre .0) (s k .pre .2) (s k .pre .1) (count-is k)
-    (f .before .address-at .ensures) (f .outside .ensures) (i .if1 .left) (z .before .before .before .before .before .before .before .before .before .before .before .before .last .ensures ∙ ap lastOf w) (ap (λ (x : ℕ). s k .args .at + 1 + x) a)
-    refl (p .put-head .ensures) (read-part (s k .args .memory .now) (f .before .address-at .result / 4) (k .count .result)) (z .put-run .ensures)
+    (f .before .address-at .ensures) (f .outside .ensures) (i .if1 .left) (l .last .ensures ∙ ap lastOf (k .before .word-at .ensures)) (ap (λ (x : ℕ). s k .args .at + 1 + x) (l .before .address-words .ensures .0))
+    refl (h .before .before .before .before .put-head .ensures) (read-part (s k .args .memory .now) (f .before .address-at .result / 4) (k .count .result)) (c .before .before .before .before .put-run .ensures)
 
 pub carry-read-spec : {M : Type 1} → statement M
 carry-read-spec =
@@ -172,14 +150,6 @@ carry-read-spec =
     add-next-2
     last-requires
     put-head-requires
-    add-put-both
-    mul-put-both
-    shared-slice-read-put-both
-    put-both-requires
-    add-words
-    same-length-3
-    same-length-4
-    returns-2
     add-end
     add-put-run
     mul-put-run
@@ -187,8 +157,8 @@ carry-read-spec =
     part-put-run-start
     part-put-run-end
     put-run-requires
+    add-words
     add-words-2
-    add-words-3
-    same-length-5
-    same-length-6
-    returns-3)
+    same-length-3
+    same-length-4
+    returns-2)
