@@ -9,7 +9,8 @@ use initiator::build;
 use initiator::outcome;
 use initiator::sender;
 use initiator::sender::Sender;
-use libc::STDOUT_FILENO;
+
+mod print;
 
 const MESSAGES: u32 = 18;
 
@@ -22,52 +23,6 @@ struct Ends {
     sender: Sender,
     tags: TagRecord,
     before: usize,
-}
-
-fn say(text: &[u8]) {
-    io::write_all(STDOUT_FILENO, text);
-}
-
-fn number(name: &[u8], n: u64) {
-    say(name);
-    io::print_decimal(STDOUT_FILENO, n);
-}
-
-fn wide(x: u8) -> u64 {
-    x as u64
-}
-
-fn wider(x: u32) -> u64 {
-    x as u64
-}
-
-// The bytes of a part, to the end of the line.
-fn show(part: &[u8]) {
-    let mut i = 0;
-    while i < part.len() {
-        say(b" ");
-        io::print_hex(STDOUT_FILENO, wide(part[i]), 2);
-        i += 1;
-    }
-    say(b"\n");
-}
-
-fn show_memory(memory: &[u32]) {
-    let mut i = 0;
-    while i < memory.len() {
-        say(b" ");
-        io::print_hex(STDOUT_FILENO, wider(memory[i]), 8);
-        i += 1;
-    }
-    say(b"\n");
-}
-
-// The first n bytes, or all where there are fewer.
-fn front(bytes: &[u8], n: usize) -> &[u8] {
-    if bytes.len() < n {
-        return bytes;
-    }
-    &bytes[..n]
 }
 
 // Builds message i and gives its length: two of three write a word that says their number, the third reads the word before.
@@ -107,11 +62,11 @@ fn arrives(
 ) -> Served {
     let served = serving::serve(memory, stored, output, tags, datagram);
     let refusal = served.refusal;
-    say(label);
-    number(b": refusal ", refusal.number as u64);
-    number(b", bytes ", served.sent as u64);
-    say(b":");
-    show(front(output, served.sent));
+    print::say(label);
+    print::number(b": refusal ", refusal.number as u64);
+    print::number(b", bytes ", served.sent as u64);
+    print::say(b":");
+    print::show(print::front(output, served.sent));
     served
 }
 
@@ -120,15 +75,15 @@ fn back(label: &[u8], s: Sender, message: &[u8], answer: &[u8]) -> Sender {
     let moved = sender::take(s, message, answer);
     let refusal = moved.refusal;
     let then = moved.sender;
-    say(label);
-    number(b": refusal ", refusal.number as u64);
-    number(b", next ", then.next as u64);
+    print::say(label);
+    print::number(b": refusal ", refusal.number as u64);
+    print::number(b", next ", then.next as u64);
     if then.waits {
-        say(b", waiting\n");
+        print::say(b", waiting\n");
     } else {
-        number(b", answered ", outcome::answered(message, answer) as u64);
-        say(b", data");
-        show(outcome::read_data(message, answer, 0));
+        print::number(b", answered ", outcome::answered(message, answer) as u64);
+        print::say(b", data");
+        print::show(outcome::read_data(message, answer, 0));
     }
     then
 }
@@ -138,10 +93,10 @@ fn offered(s: Sender, message: &[u8], i: u32) -> Sender {
     let moved = sender::offer(s, message);
     let refusal = moved.refusal;
     let then = moved.sender;
-    number(b"message ", i as u64);
-    number(b" offered: refusal ", refusal.number as u64);
-    say(b"\nsent and lost:");
-    show(sender::send(then, message));
+    print::number(b"message ", i as u64);
+    print::number(b" offered: refusal ", refusal.number as u64);
+    print::say(b"\nsent and lost:");
+    print::show(sender::send(then, message));
     then
 }
 
@@ -155,7 +110,7 @@ fn discovered(memory: &mut [u32], stored: &mut [u32], ends: Ends, message: &[u8]
         b"its answer",
         ends.sender,
         message,
-        front(&output, served.sent),
+        print::front(&output, served.sent),
     );
     Ends {
         sender: s,
@@ -172,14 +127,14 @@ fn late(memory: &mut [u32], stored: &mut [u32], tags: TagRecord, i: u32, behind:
     let mut old = [0u8; message::LIMIT_BYTES];
     let mut output = [0u8; message::LIMIT_BYTES];
     let n = compose(&mut old, i - behind);
-    number(b"from ", behind as u64);
+    print::number(b"from ", behind as u64);
     let served = arrives(
         b" before",
         memory,
         stored,
         &mut output,
         tags,
-        front(&old, n),
+        print::front(&old, n),
     );
     served.tags
 }
@@ -209,7 +164,7 @@ fn evening(
         before: ends.before,
     };
     let ends = discovered(memory, stored, waiting, message);
-    let s = again(ends.sender, message, front(old, ends.before));
+    let s = again(ends.sender, message, print::front(old, ends.before));
     let tags = ends.tags;
     Ends {
         sender: s,
@@ -266,13 +221,13 @@ fn part(
 ) -> Ends {
     let mut lent = [0u8; message::LIMIT_BYTES];
     let n = compose(&mut lent, i);
-    let message = front(&lent, n);
+    let message = print::front(&lent, n);
     let ends = evening(memory, stored, old, ends, message, i);
     let s = ends.sender;
     let sent = sender::send(s, message);
     let served = arrivals(memory, stored, output, ends.tags, sent, i);
     let tags = served.tags;
-    let s = back(b"answer", s, message, front(output, served.sent));
+    let s = back(b"answer", s, message, print::front(output, served.sent));
     Ends {
         sender: s,
         tags,
@@ -317,11 +272,11 @@ fn main() {
     let mut a = [0u8; message::LIMIT_BYTES];
     let mut b = [0u8; message::LIMIT_BYTES];
     let ends = night(&mut memory, &mut stored, &mut a, &mut b);
-    say(b"memory");
-    show_memory(&memory);
+    print::say(b"memory");
+    print::show_memory(&memory);
     let s = ends.sender;
     let tags = ends.tags;
-    number(b"next ", s.next as u64);
-    number(b", stored ", tags.tag as u64);
-    say(b"\n");
+    print::number(b"next ", s.next as u64);
+    print::number(b", stored ", tags.tag as u64);
+    print::say(b"\n");
 }

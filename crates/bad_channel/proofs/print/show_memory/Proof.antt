@@ -1,15 +1,15 @@
--- `bad_channel::show` meets its contract: each byte lies within the part, and the turns left fall. Assumes nothing.
+-- `bad_channel::print::show_memory` meets its contract: each word lies within memory, and the turns left fall. Assumes nothing.
 use borrow.Author.Needs.{needs}
 use Prim.Native.Nat.{_-_}
 use lib.ListN.{length}
-use Rattle.bad_channel.proofs.show.Statement.{statement}
-use Rattle.bad_channel.proofs.show.Tie as tie
+use Rattle.bad_channel.proofs.print.show_memory.Statement.{statement}
+use Rattle.bad_channel.proofs.print.show_memory.Tie as tie
 
 abbrev Inv-loop : tie.InvT-loop
-Inv-loop part i₀ t3 t4 i = Unit {0}
+Inv-loop memory i₀ t3 t4 i = Unit {0}
 
 abbrev μ-loop : tie.MeasureT-loop
-μ-loop part i₀ t3 t4 i = length part - i
+μ-loop memory i₀ t3 t4 i = length memory - i
 
 loop-holds : tie.Need-loop-holds Inv-loop μ-loop
 loop-holds c = search needs
@@ -20,11 +20,14 @@ slice-aggregate-say c = search needs
 say-requires : tie.Need-say-requires Inv-loop μ-loop
 say-requires c κs = search needs
 
-shared-slice-read-wide : tie.Need-shared-slice-read-wide Inv-loop μ-loop
-shared-slice-read-wide c = search needs
+mul-wider : tie.Need-mul-wider Inv-loop μ-loop
+mul-wider c = search needs
 
-wide-requires : tie.Need-wide-requires Inv-loop μ-loop
-wide-requires c κs = search needs
+shared-slice-read-wider : tie.Need-shared-slice-read-wider Inv-loop μ-loop
+shared-slice-read-wider c = search needs
+
+wider-requires : tie.Need-wider-requires Inv-loop μ-loop
+wider-requires c κs = search needs
 
 print-hex-requires : tie.Need-print-hex-requires Inv-loop μ-loop
 print-hex-requires c κs = search needs
@@ -47,8 +50,8 @@ say-requires-2 c κs = search needs
 returns : tie.Need-returns Inv-loop μ-loop
 returns c = search needs
 
-pub show-spec : {M : Type 1} → statement M
-show-spec =
+pub show-memory-spec : {M : Type 1} → statement M
+show-memory-spec =
     tie.close
     (tie.spec
     Inv-loop
@@ -56,8 +59,9 @@ show-spec =
     loop-holds
     slice-aggregate-say
     say-requires
-    shared-slice-read-wide
-    wide-requires
+    mul-wider
+    shared-slice-read-wider
+    wider-requires
     print-hex-requires
     add-i
     loop-less

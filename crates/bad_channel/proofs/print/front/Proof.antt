@@ -1,9 +1,9 @@
--- `bad_channel::front` meets its contract: the part lies within the bytes. Assumes nothing.
+-- `bad_channel::print::front` meets its contract: the part lies within the bytes. Assumes nothing.
 use mathlib.Core.Path.{sym}
 use lib.Seq.{length-take-le}
 use borrow.Author.Needs.{needs}
-use Rattle.bad_channel.proofs.front.Statement.{statement}
-use Rattle.bad_channel.proofs.front.Tie as tie
+use Rattle.bad_channel.proofs.print.front.Statement.{statement}
+use Rattle.bad_channel.proofs.print.front.Tie as tie
 
 returns : tie.Need-returns
 returns c = search needs
