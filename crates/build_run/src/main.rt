@@ -2,24 +2,15 @@
 // its refusal, 0 for none, then the record, and the words of what was closed.
 use initiator::asked::Asked;
 use initiator::build;
-use initiator::build::Built;
 use initiator::building::Building;
-use libc::STDOUT_FILENO;
+
+mod print;
 
 const NOP: u32 = 0;
 
 const WRITE: u32 = 1;
 
 const READ: u32 = 2;
-
-fn say(text: &[u8]) {
-    io::write_all(STDOUT_FILENO, text);
-}
-
-fn number(name: &[u8], n: u64) {
-    say(name);
-    io::print_decimal(STDOUT_FILENO, n);
-}
 
 // What begin takes.
 struct Start {
@@ -52,45 +43,6 @@ fn held(kind: u32, words: usize, last: usize, answer: usize, closed: bool) -> Bu
     }
 }
 
-// A line for a call: what it gave.
-fn told(label: &[u8], given: Built) -> Building {
-    let refusal = given.refusal;
-    let b = given.building;
-    say(label);
-    number(b": refusal ", refusal.number as u64);
-    number(b", words ", b.words as u64);
-    number(b", last ", b.last as u64);
-    number(b", answer ", b.answer as u64);
-    if b.closed {
-        say(b", closed\n");
-    } else {
-        say(b", open\n");
-    }
-    b
-}
-
-// The first n words of the output.
-fn show(out: &[u8], n: usize) {
-    let mut i = 0;
-    while i < n {
-        if out.len() / 4 <= i {
-            return;
-        }
-        say(b" ");
-        io::print_hex(STDOUT_FILENO, word::word_at(out, i) as u64, 8);
-        i += 1;
-    }
-    say(b"\n");
-}
-
-// The first n words of the data, or all where there are fewer.
-fn some(data: &[u32], n: usize) -> &[u32] {
-    if data.len() < n {
-        return data;
-    }
-    &data[..n]
-}
-
 // A command with no enables, for what looks at none.
 fn plain(address: u64, count: usize) -> Asked {
     Asked {
@@ -113,26 +65,26 @@ fn write_at(address: u64, first: u32, last: u32) -> Asked {
 // A message of two commands from begin to close, and its words.
 fn whole(start: Start, first: Asked, words: &[u32], second: Asked, more: &[u32]) {
     let mut out = [0u8; message::LIMIT_BYTES];
-    let b = told(
+    let b = print::told(
         b"begin",
         build::begin(&out, start.kind, start.tag, start.wide, start.discovery),
     );
-    let b = told(b"add", build::add(&mut out, b, first, words));
-    let b = told(b"add", build::add(&mut out, b, second, more));
-    let b = told(b"close", build::close(&mut out, b));
-    show(&out, b.words);
+    let b = print::told(b"add", build::add(&mut out, b, first, words));
+    let b = print::told(b"add", build::add(&mut out, b, second, more));
+    let b = print::told(b"close", build::close(&mut out, b));
+    print::show(&out, b.words);
 }
 
 // A message of one command.
 fn single(start: Start, asked: Asked, words: &[u32]) {
     let mut out = [0u8; message::LIMIT_BYTES];
-    let b = told(
+    let b = print::told(
         b"begin",
         build::begin(&out, start.kind, start.tag, start.wide, start.discovery),
     );
-    let b = told(b"add", build::add(&mut out, b, asked, words));
-    let b = told(b"close", build::close(&mut out, b));
-    show(&out, b.words);
+    let b = print::told(b"add", build::add(&mut out, b, asked, words));
+    let b = print::told(b"close", build::close(&mut out, b));
+    print::show(&out, b.words);
 }
 
 // The first command of a message.
@@ -140,50 +92,54 @@ fn tried(label: &[u8], kind: u32, asked: Asked, words: &[u32]) {
     let mut out = [0u8; message::LIMIT_BYTES];
     let given = build::begin(&out, kind, 0, false, false);
     let b = given.building;
-    told(label, build::add(&mut out, b, asked, words));
+    print::told(label, build::add(&mut out, b, asked, words));
 }
 
-// A message of each kind; the fixed discovery also as it is kept.
-fn kinds(words: &[u32]) {
+// NOPs: the fixed discovery, also as it is kept, and a message of two.
+fn nops(words: &[u32]) {
     let advert = [message::LIMIT_BYTES as u32, 0];
-    say(b"the fixed discovery\n");
+    print::say(b"the fixed discovery\n");
     single(starts(NOP, 0, false, true), plain(0, 0), &advert);
     let kept = initiator::discovery::bytes();
-    show(&kept, 3);
-    say(b"NOPs of 0 and 1 words, with an address\n");
+    print::show(&kept, 3);
+    print::say(b"NOPs of 0 and 1 words, with an address\n");
     whole(
         starts(NOP, 15, true, false),
         plain(u64::MAX, 0),
-        some(words, 0),
+        print::some(words, 0),
         plain(0, 9),
-        some(words, 1),
+        print::some(words, 1),
     );
-    say(b"a write of a word\n");
+}
+
+// Writes, and reads.
+fn writes_and_reads(words: &[u32]) {
+    print::say(b"a write of a word\n");
     single(
         starts(WRITE, 0, false, false),
         write_at(4, 15, 0),
-        some(words, 1),
+        print::some(words, 1),
     );
-    say(b"wide writes, one with no byte enabled, one at 2^64 - 1\n");
+    print::say(b"wide writes, one with no byte enabled, one at 2^64 - 1\n");
     whole(
         starts(WRITE, 1, true, false),
         write_at(8, 0, 0),
-        some(words, 1),
+        print::some(words, 1),
         write_at(u64::MAX, 12, 3),
-        some(words, 3),
+        print::some(words, 3),
     );
-    say(b"reads, one with data and enables\n");
+    print::say(b"reads, one with data and enables\n");
     whole(
         starts(READ, 2, false, false),
         plain(16, 1),
-        some(words, 0),
+        print::some(words, 0),
         Asked {
             address: 4,
             first: 99,
             last: 99,
             count: 2,
         },
-        some(words, 3),
+        print::some(words, 3),
     );
 }
 
@@ -191,12 +147,12 @@ fn kinds(words: &[u32]) {
 fn unusable() {
     let out = [0u8; message::LIMIT_BYTES];
     let short = [0u8; message::LIMIT_BYTES - 1];
-    told(
+    print::told(
         b"begin in a byte too few",
         build::begin(&short, NOP, 0, false, false),
     );
-    told(b"begin kind 3", build::begin(&out, 3, 0, false, false));
-    told(b"begin tag 16", build::begin(&out, NOP, 16, false, false));
+    print::told(b"begin kind 3", build::begin(&out, 3, 0, false, false));
+    print::told(b"begin tag 16", build::begin(&out, NOP, 16, false, false));
     reached(
         b"a write that ends within its address",
         held(WRITE, 4, 2, 2, false),
@@ -208,7 +164,7 @@ fn unusable() {
 // What closing says of a record.
 fn reached(label: &[u8], b: Building) {
     let mut out = [0u8; message::LIMIT_BYTES];
-    told(label, build::close(&mut out, b));
+    print::told(label, build::close(&mut out, b));
 }
 
 // 22: closing with nothing added, adding after closing, closing twice.
@@ -216,29 +172,39 @@ fn out_of_turn(words: &[u32]) {
     let mut out = [0u8; message::LIMIT_BYTES];
     reached(b"close with nothing added", held(WRITE, 0, 0, 0, false));
     reached(b"close twice", held(WRITE, 3, 0, 1, true));
-    told(
+    print::told(
         b"add after closing",
         build::add(
             &mut out,
             held(WRITE, 3, 0, 1, true),
             write_at(0, 15, 0),
-            some(words, 1),
+            print::some(words, 1),
         ),
     );
 }
 
 // 23: counts.
 fn counts(words: &[u32]) {
-    tried(b"write no words", WRITE, write_at(0, 15, 0), some(words, 0));
+    tried(
+        b"write no words",
+        WRITE,
+        write_at(0, 15, 0),
+        print::some(words, 0),
+    );
     tried(
         b"write 4,096 words",
         WRITE,
         write_at(0, 15, 15),
-        some(words, 4096),
+        print::some(words, 4096),
     );
-    tried(b"read no words", READ, plain(0, 0), some(words, 1));
-    tried(b"read 4,097 words", READ, plain(0, 4097), some(words, 1));
-    tried(b"NOP of 3 words", NOP, plain(0, 1), some(words, 3));
+    tried(b"read no words", READ, plain(0, 0), print::some(words, 1));
+    tried(
+        b"read 4,097 words",
+        READ,
+        plain(0, 4097),
+        print::some(words, 1),
+    );
+    tried(b"NOP of 3 words", NOP, plain(0, 1), print::some(words, 3));
 }
 
 // 24: enables.
@@ -247,25 +213,25 @@ fn enables(words: &[u32]) {
         b"write 1, last enables 1",
         WRITE,
         write_at(0, 15, 1),
-        some(words, 1),
+        print::some(words, 1),
     );
     tried(
         b"write 2, last enables 0",
         WRITE,
         write_at(0, 15, 0),
-        some(words, 2),
+        print::some(words, 2),
     );
     tried(
         b"write 1, first enables 16",
         WRITE,
         write_at(0, 16, 0),
-        some(words, 1),
+        print::some(words, 1),
     );
     tried(
         b"write 2, last enables 16",
         WRITE,
         write_at(0, 15, 16),
-        some(words, 2),
+        print::some(words, 2),
     );
 }
 
@@ -276,38 +242,43 @@ fn lengths(words: &[u32]) {
         b"write at 2^32",
         WRITE,
         write_at(4294967296, 15, 0),
-        some(words, 1),
+        print::some(words, 1),
     );
     tried(
         b"write at 2^32 - 1",
         WRITE,
         write_at(4294967295, 15, 0),
-        some(words, 1),
+        print::some(words, 1),
     );
-    tried(b"read at 2^32", READ, plain(4294967296, 1), some(words, 0));
+    tried(
+        b"read at 2^32",
+        READ,
+        plain(4294967296, 1),
+        print::some(words, 0),
+    );
     tried(
         b"message of the limit",
         WRITE,
         write_at(0, 15, 15),
-        some(words, most - 2),
+        print::some(words, most - 2),
     );
     tried(
         b"and of one word more",
         WRITE,
         write_at(0, 15, 15),
-        some(words, most - 1),
+        print::some(words, most - 1),
     );
     tried(
         b"all-OK answer of the limit",
         READ,
         plain(0, most - 1),
-        some(words, 0),
+        print::some(words, 0),
     );
     tried(
         b"and of one word more",
         READ,
         plain(0, most),
-        some(words, 0),
+        print::some(words, 0),
     );
 }
 
@@ -316,7 +287,8 @@ fn main() {
     words[0] = 0xFEEDC0DE;
     words[1] = 0x11111111;
     words[2] = 0x22222222;
-    kinds(&words);
+    nops(&words);
+    writes_and_reads(&words);
     unusable();
     out_of_turn(&words);
     counts(&words);

@@ -1,9 +1,9 @@
--- `build_run::some` meets its contract: the part lies within the data. Assumes nothing.
+-- `build_run::print::some` meets its contract: the part lies within the data. Assumes nothing.
 use mathlib.Core.Path.{sym}
 use lib.Seq.{length-take-le}
 use borrow.Author.Needs.{needs}
-use Rattle.build_run.proofs.some.Statement.{statement}
-use Rattle.build_run.proofs.some.Tie as tie
+use Rattle.build_run.proofs.print.some.Statement.{statement}
+use Rattle.build_run.proofs.print.some.Tie as tie
 
 returns : tie.Need-returns
 returns c = search needs

@@ -1,8 +1,8 @@
--- `build_run::show` meets its contract: each word lies within the output, and the turns left fall. Assumes nothing.
+-- `build_run::print::show` meets its contract: each word lies within the output, and the turns left fall. Assumes nothing.
 use borrow.Author.Needs.{needs}
 use Prim.Native.Nat.{_-_}
-use Rattle.build_run.proofs.show.Statement.{statement}
-use Rattle.build_run.proofs.show.Tie as tie
+use Rattle.build_run.proofs.print.show.Statement.{statement}
+use Rattle.build_run.proofs.print.show.Tie as tie
 
 abbrev Inv-loop : tie.InvT-loop
 Inv-loop out n i₀ t4 t5 i = Unit {0}
