@@ -63,7 +63,7 @@ fn count_fits(kind: Kind, count: usize) -> bool
     if 4096 <= count {
         return false;
     }
-    message::walk::count_ok(kind, count)
+    message::faults::count_ok(kind, count)
 }
 
 // Whether these are two fields of four bits that a write of this count may have.
@@ -76,7 +76,7 @@ fn fields_ok(count: usize, first: u32, last: u32) -> bool
     if 16 <= last {
         return false;
     }
-    message::walk::pattern_ok(count, first, last)
+    message::faults::pattern_ok(count, first, last)
 }
 
 // Whether a command of this kind and count may have these enables: only writes are looked at.

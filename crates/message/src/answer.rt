@@ -7,10 +7,10 @@ ghost use Rattle.word.specs.Words.{wordsOf};
 ghost use Rattle.message.specs.Header.{countOf, byte1Of, lastOf};
 ghost use Rattle.message.specs.Walk.{endsOk};
 ghost use Rattle.message.specs.Answer.{codeOf, statusNo, answerByte, wanted, stops, answerFault, seenOf, lookOn, lookAt};
+use crate::faults::ends_ok;
 use crate::header;
 use crate::header::Kind;
 use crate::refusal::Refusal;
-use crate::walk::ends_ok;
 
 // How a command ended.
 pub enum Status {

@@ -3,6 +3,7 @@
 //
 // The contracts cite specs/: one short definition for each sentence of document 01, in the file named after the module.
 pub mod answer;
+pub mod faults;
 pub mod header;
 pub mod refusal;
 pub mod request;

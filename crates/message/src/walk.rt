@@ -5,10 +5,11 @@ ghost use mathlib.Core.Bool.{true};
 ghost use lib.ListN.{length};
 ghost use Rattle.word.specs.Words.{wordsOf};
 ghost use Rattle.message.specs.declared.header.Kind.the-variants.{Write};
-ghost use Rattle.message.specs.Walk.{asks, countOk, patternOk, enablesOk, endsOk, faultOf, stepOn, stepAt, refusalOf};
+ghost use Rattle.message.specs.Walk.{faultOf, stepOn, stepAt, refusalOf};
 ghost use Rattle.message.specs.Limits.{limitBytes};
 ghost use Rattle.message.specs.Request.{commandsFrom, lengthOk, endOf, finish, walkOf};
-ghost use Rattle.message.specs.Header.{kindOf, countOf, byte1Of, lastOf, bodyWords};
+ghost use Rattle.message.specs.Header.{kindOf, countOf};
+use crate::faults;
 use crate::header;
 use crate::header::Head;
 use crate::header::Kind;
@@ -18,118 +19,6 @@ use crate::refusal::Refusal;
 pub enum Step {
     Read(Head),
     Refused(Refusal),
-}
-
-// Whether byte 0 is a request's.
-fn asks_by(byte0: u32) -> bool
-    ensures { λ r. ⌜ r ≡ asks (kindOf byte0) ⌝ }
-{
-    let kind = header::kind_of(byte0);
-    match kind {
-        Kind::Nop => true,
-        Kind::Write => true,
-        Kind::Read => true,
-        Kind::Response => false,
-    }
-}
-
-// Whether a command of this kind may have this count.
-pub fn count_ok(kind: Kind, count: usize) -> bool
-    ensures { λ r. ⌜ r ≡ countOk kind count ⌝ }
-{
-    match kind {
-        Kind::Nop => count <= 2,
-        Kind::Write => 1 <= count,
-        Kind::Read => 1 <= count,
-        Kind::Response => false,
-    }
-}
-
-// Whether a write of this count may have these enables for its first and its last word.
-pub fn pattern_ok(count: usize, first: u32, last: u32) -> bool
-    ensures { λ r. ⌜ r ≡ patternOk count first last ⌝ }
-{
-    match count {
-        0..=1 => last == 0,
-        _ => match first {
-            0 => false,
-            _ => last != 0,
-        },
-    }
-}
-
-// The same for any kind: only writes are looked at.
-pub fn enables_ok(kind: Kind, count: usize, byte1: u32) -> bool
-    ensures { λ r. ⌜ r ≡ enablesOk kind count byte1 ⌝ }
-{
-    match kind {
-        Kind::Nop => true,
-        Kind::Write => pattern_ok(count, byte1 % 16, byte1 / 16),
-        Kind::Read => true,
-        Kind::Response => true,
-    }
-}
-
-// The same of a header: whether its kind may have its count.
-fn count_fits(byte0: u32, h: u32) -> bool
-    ensures { λ r. ⌜ r ≡ countOk (kindOf byte0) (countOf h) ⌝ }
-{
-    count_ok(header::kind_of(byte0), header::count(h))
-}
-
-// Whether a header's kind and count may have its enables.
-fn enables_fit(byte0: u32, h: u32) -> bool
-    ensures { λ r. ⌜ r ≡ enablesOk (kindOf byte0) (countOf h) (byte1Of h) ⌝ }
-{
-    enables_ok(header::kind_of(byte0), header::count(h), header::byte1(h))
-}
-
-// Whether nothing follows the body of a LAST command.
-pub fn ends_ok(last: bool, body: usize, left: usize) -> bool
-    ensures { λ r. ⌜ r ≡ endsOk last body left ⌝ }
-{
-    if last {
-        return left == body;
-    }
-    true
-}
-
-// The same of a header with `left` words after it.
-fn ends_fit(byte0: u32, h: u32, left: usize) -> bool
-    ensures { λ r. ⌜ r ≡ endsOk (lastOf h) (bodyWords byte0 (countOf h)) left ⌝ }
-{
-    ends_ok(header::last(h), header::body_words(byte0, h), left)
-}
-
-// The first fault of a header h with `left` words after it, in the document's order, or 0.
-pub fn fault(byte0: u32, h: u32, left: usize) -> u32
-    ensures { λ r. ⌜ r ≡ faultOf byte0 h left ⌝ }
-{
-    if h % 256 != byte0 {
-        return Refusal::BYTE0;
-    }
-    if !asks_by(byte0) {
-        return Refusal::KIND;
-    }
-    if header::reserved(h) != 0 {
-        return Refusal::RESERVED;
-    }
-    if !count_fits(byte0, h) {
-        return Refusal::COUNT;
-    }
-    if !enables_fit(byte0, h) {
-        return Refusal::ENABLES;
-    }
-    if left < header::address_words(byte0) {
-        return Refusal::PAST_END;
-    }
-    if left < header::body_words(byte0, h) {
-        return Refusal::PAST_END;
-    }
-    if !ends_fit(byte0, h, left) {
-        return Refusal::AFTER_LAST;
-    }
-    0
 }
 
 // Whether byte 0 is a write's.
@@ -163,7 +52,7 @@ fn short_write(byte0: u32, h: u32, left: usize) -> bool
     if left < body {
         return false;
     }
-    ends_ok(header::last(h), body, left)
+    faults::ends_ok(header::last(h), body, left)
 }
 
 // A header h with `left` words after it. The body of a short write has a size of its own here, so that the processor knows where the
@@ -179,7 +68,7 @@ pub fn step_on(byte0: u32, h: u32, left: usize) -> Step
             last: header::last(h),
         });
     }
-    let number = fault(byte0, h, left);
+    let number = faults::fault(byte0, h, left);
     if number != 0 {
         return Step::Refused(Refusal { number });
     }

@@ -1,7 +1,7 @@
--- `message::walk::count_fits` meets its contract, by the fields read. Assumes nothing.
+-- `message::faults::count_fits` meets its contract, by the fields read. Assumes nothing.
 use borrow.Author.Needs.{needs}
-use Rattle.message.proofs.walk.count_fits.Statement.{statement}
-use Rattle.message.proofs.walk.count_fits.Tie as tie
+use Rattle.message.proofs.faults.count_fits.Statement.{statement}
+use Rattle.message.proofs.faults.count_fits.Tie as tie
 
 kind-of-requires : tie.Need-kind-of-requires
 kind-of-requires c κs = search needs

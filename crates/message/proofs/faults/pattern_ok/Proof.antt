@@ -1,8 +1,8 @@
--- `message::walk::pattern_ok` meets its contract: the arms are the cases of `patternOk`. Assumes nothing.
+-- `message::faults::pattern_ok` meets its contract: the arms are the cases of `patternOk`. Assumes nothing.
 use Rattle.word.proofs.Rules.{tests}
 use Rattle.message.specs.Walk.{patternOk}
-use Rattle.message.proofs.walk.pattern_ok.Statement.{statement}
-use Rattle.message.proofs.walk.pattern_ok.Tie as tie
+use Rattle.message.proofs.faults.pattern_ok.Statement.{statement}
+use Rattle.message.proofs.faults.pattern_ok.Tie as tie
 
 returns : tie.Need-returns
 unfolding patternOk

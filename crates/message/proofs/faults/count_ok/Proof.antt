@@ -1,8 +1,8 @@
--- `message::walk::count_ok` meets its contract: the arms are the cases of `countOk`. Assumes nothing.
+-- `message::faults::count_ok` meets its contract: the arms are the cases of `countOk`. Assumes nothing.
 use Rattle.word.proofs.Rules.{tests}
 use borrow.Author.Needs.{needs}
-use Rattle.message.proofs.walk.count_ok.Statement.{statement}
-use Rattle.message.proofs.walk.count_ok.Tie as tie
+use Rattle.message.proofs.faults.count_ok.Statement.{statement}
+use Rattle.message.proofs.faults.count_ok.Tie as tie
 
 enum-told : tie.Need-enum-told
 enum-told c = search needs

@@ -1,7 +1,7 @@
--- `message::walk::enables_fit` meets its contract, by the fields read. Assumes nothing.
+-- `message::faults::enables_fit` meets its contract, by the fields read. Assumes nothing.
 use borrow.Author.Needs.{needs}
-use Rattle.message.proofs.walk.enables_fit.Statement.{statement}
-use Rattle.message.proofs.walk.enables_fit.Tie as tie
+use Rattle.message.proofs.faults.enables_fit.Statement.{statement}
+use Rattle.message.proofs.faults.enables_fit.Tie as tie
 
 kind-of-requires : tie.Need-kind-of-requires
 kind-of-requires c κs = search needs

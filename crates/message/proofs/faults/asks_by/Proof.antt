@@ -1,8 +1,8 @@
--- `message::walk::asks_by` meets its contract: every kind but a response. Assumes nothing.
+-- `message::faults::asks_by` meets its contract: every kind but a response. Assumes nothing.
 use mathlib.Core.Path.{sym, _∙_}
 use borrow.Author.Needs.{needs}
-use Rattle.message.proofs.walk.asks_by.Statement.{statement}
-use Rattle.message.proofs.walk.asks_by.Tie as tie
+use Rattle.message.proofs.faults.asks_by.Statement.{statement}
+use Rattle.message.proofs.faults.asks_by.Tie as tie
 
 kind-of-requires : tie.Need-kind-of-requires
 kind-of-requires c κs = search needs

@@ -1,7 +1,7 @@
--- `message::walk::enables_ok` meets its contract: only a write is looked at. Assumes nothing.
+-- `message::faults::enables_ok` meets its contract: only a write is looked at. Assumes nothing.
 use borrow.Author.Needs.{needs}
-use Rattle.message.proofs.walk.enables_ok.Statement.{statement}
-use Rattle.message.proofs.walk.enables_ok.Tie as tie
+use Rattle.message.proofs.faults.enables_ok.Statement.{statement}
+use Rattle.message.proofs.faults.enables_ok.Tie as tie
 
 enum-told : tie.Need-enum-told
 enum-told c = search needs

@@ -1,7 +1,7 @@
--- `message::walk::ends_fit` meets its contract, by the fields read. Assumes nothing.
+-- `message::faults::ends_fit` meets its contract, by the fields read. Assumes nothing.
 use borrow.Author.Needs.{needs}
-use Rattle.message.proofs.walk.ends_fit.Statement.{statement}
-use Rattle.message.proofs.walk.ends_fit.Tie as tie
+use Rattle.message.proofs.faults.ends_fit.Statement.{statement}
+use Rattle.message.proofs.faults.ends_fit.Tie as tie
 
 last-requires : tie.Need-last-requires
 last-requires c κs = search needs
