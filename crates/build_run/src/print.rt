@@ -3,7 +3,7 @@ use initiator::build::Built;
 use initiator::building::Building;
 use libc::STDOUT_FILENO;
 
-pub fn say(text: &[u8]) {
+pub(crate) fn say(text: &[u8]) {
     io::write_all(STDOUT_FILENO, text);
 }
 
@@ -13,7 +13,7 @@ fn number(name: &[u8], n: u64) {
 }
 
 // A line for a call: what it gave.
-pub fn told(label: &[u8], given: Built) -> Building {
+pub(crate) fn told(label: &[u8], given: Built) -> Building {
     let refusal = given.refusal;
     let b = given.building;
     say(label);
@@ -30,7 +30,7 @@ pub fn told(label: &[u8], given: Built) -> Building {
 }
 
 // The first n words of the output.
-pub fn show(out: &[u8], n: usize) {
+pub(crate) fn show(out: &[u8], n: usize) {
     let mut i = 0;
     while i < n {
         if out.len() / 4 <= i {
@@ -44,7 +44,7 @@ pub fn show(out: &[u8], n: usize) {
 }
 
 // The first n words of the data, or all where there are fewer.
-pub fn some(data: &[u32], n: usize) -> &[u32] {
+pub(crate) fn some(data: &[u32], n: usize) -> &[u32] {
     if data.len() < n {
         return data;
     }
