@@ -111,7 +111,6 @@ fn carry_write(
     }
     let base = (address / 4) as usize;
     let from = at + 1 + header::address_words(task.byte0);
-    let byte1 = header::byte1(h);
     let last = header::last(h);
     answers::put_head(
         stored,
@@ -123,20 +122,8 @@ fn carry_write(
         0,
         last,
     );
+    let next = moves::store_all(memory, base, datagram, from, count, header::byte1(h));
     let words = n + 1;
-    if count == 1 {
-        let w = word::word_at(datagram, from);
-        moves::store(memory, base, w, header::first(byte1));
-        // Here the next header's place does not wait for the count.
-        let next = from + 1;
-        return Carried {
-            stop: last,
-            words,
-            next,
-        };
-    }
-    moves::store_words(memory, base, datagram, from, count, byte1);
-    let next = from + count;
     Carried {
         stop: last,
         words,

@@ -52,3 +52,29 @@ pub(crate) fn store_words(
         last,
     );
 }
+
+// A write's words, from word `at` on. Gives where the next header stands, which for one word does not wait for the count.
+pub(crate) fn store_all(
+    memory: &mut [u32],
+    at: usize,
+    datagram: &[u8],
+    from: usize,
+    count: usize,
+    byte1: u32,
+) -> usize
+    requires { ⌜ (1 ≤ count) × (count ≤ longest) × (at + count ≤ length (now memory)) × (4 * (from + count) ≤ length (now datagram)) ⌝ }
+    ensures { λ r. ⌜ (r ≡ from + count) × (now (memory .exit)
+        ≡ afterMoves (now (memory .entry)) (stores at (firstOf byte1) (finalOf byte1) (take count (drop from (wordsOf (now (datagram .entry))))))) ⌝ }
+{
+    if count == 1 {
+        store(
+            memory,
+            at,
+            word::word_at(datagram, from),
+            header::first(byte1),
+        );
+        return from + 1;
+    }
+    store_words(memory, at, datagram, from, count, byte1);
+    from + count
+}
