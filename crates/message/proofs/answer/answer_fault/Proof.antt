@@ -1,10 +1,17 @@
 -- `message::answer::answer_fault` meets its contract: each check is a line of `answerFault`, in its order. Assumes nothing.
-use mathlib.Core.Path.{sym, _∙_}
+use mathlib.Core.Path.{_≡_, sym, _∙_}
+use mathlib.Core.Bool.{true}
+use lib.Dec.{eqb}
 use Rattle.word.proofs.Rules.{flag-on, flag-off, eqb-on, eqb-off, leb-on, leb-off}
-use Rattle.message.specs.Answer.{answerFault}
+use Rattle.message.specs.Header.{byte0Of}
+use Rattle.message.specs.Answer.{answerByte, answerFault}
 use borrow.Author.Needs.{needs}
 use Rattle.message.proofs.answer.answer_fault.Statement.{statement}
 use Rattle.message.proofs.answer.answer_fault.Tie as tie
+
+-- byte 0, once it was found to be the answer's
+same : (c : tie.Else1) → eqb (byte0Of (c .before .before .before .args .h)) (answerByte (c .before .before .before .args .byte0)) ≡ true
+same c = eqb-on (c .before .before .byte0 .ensures .0) (c .if1 .left ∙ c .before .answer-byte .ensures .0)
 
 byte0-requires : tie.Need-byte0-requires
 byte0-requires c κs = search needs
@@ -24,7 +31,7 @@ returns-2 : tie.Need-returns-2
 unfolding answerFault
 returns-2 c =
     let s1 = c .before .before in
-    simp (eqb-on (s1 .before .before .byte0 .ensures .0) (s1 .if1 .left ∙ s1 .before .answer-byte .ensures .0), eqb-off (c .before .reserved .ensures) (c .if2 .taken))
+    simp (same s1, eqb-off (c .before .reserved .ensures) (c .if2 .taken))
 
 status-known-requires : tie.Need-status-known-requires
 status-known-requires c κs = search needs
@@ -34,7 +41,7 @@ unfolding answerFault
 returns-3 c =
     let s2 = c .before .before in
     let s1 = s2 .before .before in
-    simp (eqb-on (s1 .before .before .byte0 .ensures .0) (s1 .if1 .left ∙ s1 .before .answer-byte .ensures .0), eqb-on (s2 .before .reserved .ensures) (s2 .if2 .left), flag-off (c .before .status-known .ensures) (c .if3 .taken))
+    simp (same s1, eqb-on (s2 .before .reserved .ensures) (s2 .if2 .left), flag-off (c .before .status-known .ensures) (c .if3 .taken))
 
 count-right-requires : tie.Need-count-right-requires
 count-right-requires c κs = search needs
@@ -45,7 +52,7 @@ returns-4 c =
     let s3 = c .before .before in
     let s2 = s3 .before .before in
     let s1 = s2 .before .before in
-    simp (eqb-on (s1 .before .before .byte0 .ensures .0) (s1 .if1 .left ∙ s1 .before .answer-byte .ensures .0), eqb-on (s2 .before .reserved .ensures) (s2 .if2 .left), flag-on (s3 .before .status-known .ensures) (s3 .if3 .left), flag-off (c .before .count-right .ensures) (c .if4 .taken))
+    simp (same s1, eqb-on (s2 .before .reserved .ensures) (s2 .if2 .left), flag-on (s3 .before .status-known .ensures) (s3 .if3 .left), flag-off (c .before .count-right .ensures) (c .if4 .taken))
 
 count-requires : tie.Need-count-requires
 count-requires c κs = search needs
@@ -57,7 +64,7 @@ returns-5 c =
     let s3 = s4 .before .before in
     let s2 = s3 .before .before in
     let s1 = s2 .before .before in
-    simp (eqb-on (s1 .before .before .byte0 .ensures .0) (s1 .if1 .left ∙ s1 .before .answer-byte .ensures .0), eqb-on (s2 .before .reserved .ensures) (s2 .if2 .left), flag-on (s3 .before .status-known .ensures) (s3 .if3 .left), flag-on (s4 .before .count-right .ensures) (s4 .if4 .left), leb-off (c .before .count .ensures .0) (c .if5 .taken))
+    simp (same s1, eqb-on (s2 .before .reserved .ensures) (s2 .if2 .left), flag-on (s3 .before .status-known .ensures) (s3 .if3 .left), flag-on (s4 .before .count-right .ensures) (s4 .if4 .left), leb-off (c .before .count .ensures .0) (c .if5 .taken))
 
 last-right-requires : tie.Need-last-right-requires
 last-right-requires c κs = search needs
@@ -70,7 +77,7 @@ returns-6 c =
     let s3 = s4 .before .before in
     let s2 = s3 .before .before in
     let s1 = s2 .before .before in
-    simp (eqb-on (s1 .before .before .byte0 .ensures .0) (s1 .if1 .left ∙ s1 .before .answer-byte .ensures .0), eqb-on (s2 .before .reserved .ensures) (s2 .if2 .left), flag-on (s3 .before .status-known .ensures) (s3 .if3 .left), flag-on (s4 .before .count-right .ensures) (s4 .if4 .left), leb-on (s5 .before .count .ensures .0) (s5 .if5 .left), flag-off (c .before .last-right .ensures) (c .if6 .taken))
+    simp (same s1, eqb-on (s2 .before .reserved .ensures) (s2 .if2 .left), flag-on (s3 .before .status-known .ensures) (s3 .if3 .left), flag-on (s4 .before .count-right .ensures) (s4 .if4 .left), leb-on (s5 .before .count .ensures .0) (s5 .if5 .left), flag-off (c .before .last-right .ensures) (c .if6 .taken))
 
 nothing-after-requires : tie.Need-nothing-after-requires
 nothing-after-requires c κs = search needs
@@ -84,7 +91,7 @@ returns-7 c =
     let s3 = s4 .before .before in
     let s2 = s3 .before .before in
     let s1 = s2 .before .before in
-    simp (eqb-on (s1 .before .before .byte0 .ensures .0) (s1 .if1 .left ∙ s1 .before .answer-byte .ensures .0), eqb-on (s2 .before .reserved .ensures) (s2 .if2 .left), flag-on (s3 .before .status-known .ensures) (s3 .if3 .left), flag-on (s4 .before .count-right .ensures) (s4 .if4 .left), leb-on (s5 .before .count .ensures .0) (s5 .if5 .left), flag-on (s6 .before .last-right .ensures) (s6 .if6 .left), flag-off (c .before .nothing-after .ensures) (c .if7 .taken))
+    simp (same s1, eqb-on (s2 .before .reserved .ensures) (s2 .if2 .left), flag-on (s3 .before .status-known .ensures) (s3 .if3 .left), flag-on (s4 .before .count-right .ensures) (s4 .if4 .left), leb-on (s5 .before .count .ensures .0) (s5 .if5 .left), flag-on (s6 .before .last-right .ensures) (s6 .if6 .left), flag-off (c .before .nothing-after .ensures) (c .if7 .taken))
 
 returns-8 : tie.Need-returns-8
 unfolding answerFault
@@ -95,7 +102,7 @@ returns-8 c =
     let s3 = s4 .before .before in
     let s2 = s3 .before .before in
     let s1 = s2 .before .before in
-    simp (eqb-on (s1 .before .before .byte0 .ensures .0) (s1 .if1 .left ∙ s1 .before .answer-byte .ensures .0), eqb-on (s2 .before .reserved .ensures) (s2 .if2 .left), flag-on (s3 .before .status-known .ensures) (s3 .if3 .left), flag-on (s4 .before .count-right .ensures) (s4 .if4 .left), leb-on (s5 .before .count .ensures .0) (s5 .if5 .left), flag-on (s6 .before .last-right .ensures) (s6 .if6 .left), flag-on (c .before .nothing-after .ensures) (c .if7 .left))
+    simp (same s1, eqb-on (s2 .before .reserved .ensures) (s2 .if2 .left), flag-on (s3 .before .status-known .ensures) (s3 .if3 .left), flag-on (s4 .before .count-right .ensures) (s4 .if4 .left), leb-on (s5 .before .count .ensures .0) (s5 .if5 .left), flag-on (s6 .before .last-right .ensures) (s6 .if6 .left), flag-on (c .before .nothing-after .ensures) (c .if7 .left))
 
 pub answer-fault-spec : {M : Type 1} → statement M
 answer-fault-spec =
