@@ -235,9 +235,8 @@ fn enables(words: &[u32]) {
     );
 }
 
-// 25 and 26: addresses; a message and an all-OK answer of the limit, and of one word more.
-fn lengths(words: &[u32]) {
-    let most = message::LIMIT;
+// 25: addresses of 2^32, and one less.
+fn addresses(words: &[u32]) {
     tried(
         b"write at 2^32",
         WRITE,
@@ -256,6 +255,11 @@ fn lengths(words: &[u32]) {
         plain(4294967296, 1),
         print::some(words, 0),
     );
+}
+
+// 26: a message and an all-OK answer of the limit, and of one word more.
+fn lengths(words: &[u32]) {
+    let most = message::LIMIT;
     tried(
         b"message of the limit",
         WRITE,
@@ -293,5 +297,6 @@ fn main() {
     out_of_turn(&words);
     counts(&words);
     enables(&words);
+    addresses(&words);
     lengths(&words);
 }
