@@ -129,11 +129,13 @@ fn end(answer: usize) -> Walked
     Walked::WellFormed(answer)
 }
 
-// The commands of a datagram of right length, whose byte 0 is this.
+// The commands of a datagram of right length, whose byte 0 is this. `each` is what a word asked for adds to the answer: what the kind
+// decides is decided once.
 fn walk_on(datagram: &[u8], byte0: u32) -> Walked
     requires { ⌜ length (now datagram) ≤ limitBytes ⌝ }
     ensures { λ r. ⌜ r ≡ finish byte0 0 (commandsFrom byte0 0 (wordsOf (now (datagram .entry)))) ⌝ }
 {
+    let each = header::reply_words(header::kind_of(byte0), 1);
     let mut at: usize = 0;
     let mut answer: usize = 0;
     loop {
@@ -141,7 +143,7 @@ fn walk_on(datagram: &[u8], byte0: u32) -> Walked
         let Step::Read(head) = s else {
             return Walked::Malformed(refusal_of(s));
         };
-        answer = answer + 1 + header::reply_words(header::kind_of(byte0), head.count);
+        answer = answer + 1 + each * head.count;
         if head.last {
             return end(answer);
         }

@@ -10,6 +10,8 @@ use lib.Dec.{ltb, leb, eqb}
 use lib.Seq.{drop-cons, drop-drop}
 use borrow.Author.Tests.{eqb-true, ltb-true, ltb-false, le-leb}
 use Rattle.word.specs.Words.{wordsOf}
+use Rattle.message.specs.declared.header.Kind.{Kind}
+use Rattle.message.specs.declared.header.Kind.the-variants.{Nop, Write, Read as Reads, Response}
 use Rattle.message.specs.declared.header.Head.{Head}
 use Rattle.message.specs.declared.refusal.Refusal.{Refusal}
 use Rattle.message.specs.declared.walk.Step.{Step}
@@ -75,6 +77,13 @@ finish-before byte0 answer c (Wrong r) = refl
 finish-before byte0 answer c (Means cs) =
     let e : answer + (1 + replyWords (kindOf byte0) (c .count) + replies byte0 cs) ≡ answer + 1 + replyWords (kindOf byte0) (c .count) + replies byte0 cs = omega arith in
     rw e
+
+-- what a word asked for adds to the answer, once for each word
+pub reply-each : (kind : Kind) (count : ℕ) → replyWords kind 1 * count ≡ replyWords kind count
+reply-each Nop count = omega arith
+reply-each Write count = omega arith
+reply-each Reads count = omega arith
+reply-each Response count = omega arith
 
 -- the walk stands before word `at`, with so many words answered
 pub record Going (byte0 : ℕ) (ws : List ℕ) (at answer : ℕ) : Type 0 where

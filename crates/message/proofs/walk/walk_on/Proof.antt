@@ -3,7 +3,7 @@ use Rattle.message.specs.declared.refusal.Refusal.{Refusal}
 use Rattle.message.specs.declared.header.Kind.{Kind}
 use borrow.Author.Needs.{needs}
 use mathlib.Core.Path.{_≡_, sym, _∙_, ap}
-use Prim.Native.Nat.{_-_}
+use Prim.Native.Nat.{ℕ, _-_, _*_}
 use native.Mathlib.Omega.{arith}
 use denote.Ref.{now}
 use lib.ListN.{length}
@@ -13,33 +13,41 @@ use Rattle.message.specs.declared.walk.Step.the-variants.{Read, Refused}
 use Rattle.message.specs.declared.walk.Walked.the-variants.{Malformed}
 use Rattle.message.specs.Header.{kindOf, replyWords}
 use Rattle.message.specs.Walk.{stepAt, refusalOf}
-use Rattle.message.proofs.Laws.Going.{Going, got, going-starts, going-refused, going-last, going-small, going-on, going-less}
+use Rattle.message.proofs.Laws.Going.{reply-each, Going, got, going-starts, going-refused, going-last, going-small, going-on, going-less}
 use Rattle.message.proofs.walk.walk_on.Statement.{statement}
 use Rattle.message.proofs.walk.walk_on.Tie as tie
 
 abbrev Inv-loop : tie.InvT-loop
-Inv-loop datagram byte0 at₀ answer₀ at answer = Going byte0 (wordsOf datagram) at answer
+Inv-loop datagram byte0 each at₀ answer₀ at answer = Going byte0 (wordsOf datagram) at answer
 
 abbrev μ-loop : tie.MeasureT-loop
-μ-loop datagram byte0 at₀ answer₀ at answer = length (wordsOf datagram) - at
+μ-loop datagram byte0 each at₀ answer₀ at answer = length (wordsOf datagram) - at
 
 -- the header that was read, and the words of its OK answer
 module _ (c : tie.After-s Inv-loop μ-loop) where
   abbrev at-loop : tie.At-loop Inv-loop μ-loop
   at-loop = c .before .before .before
 
-  was-read : stepAt (at-loop .before .before .args .byte0) (wordsOf (now (at-loop .before .before .args .datagram))) (at-loop .loop .at) ≡ Read (c .s .given .0 .0)
+  abbrev start : tie.Start Inv-loop μ-loop
+  start = at-loop .before .before .before .before
+
+  was-read : stepAt (start .args .byte0) (wordsOf (now (start .args .datagram))) (at-loop .loop .at) ≡ Read (c .s .given .0 .0)
   was-read = sym (c .before .before .step-at .ensures) ∙ c .s .given .1
 
-module _ (c : tie.After-reply-words Inv-loop μ-loop) where
-  abbrev read-at : tie.After-s Inv-loop μ-loop
-  read-at = c .before .before .before
+  reply-is : at-loop .before .reply-words .result * c .s .given .0 .0 .count ≡ replyWords (kindOf (start .args .byte0)) (c .s .given .0 .0 .count)
+  reply-is =
+      let kind = at-loop .before .before .kind-of .ensures in
+      let each = at-loop .before .reply-words .ensures .0 ∙ ap (λ (k : Kind). replyWords k 1) kind in
+      ap (λ (x : ℕ). x * c .s .given .0 .0 .count) each ∙ reply-each (kindOf (start .args .byte0)) _
 
-  reply-is : c .reply-words .result ≡ replyWords (kindOf (at-loop read-at .before .before .args .byte0)) (read-at .s .given .0 .0 .count)
-  reply-is = c .reply-words .ensures .0 ∙ ap (λ (k : Kind). replyWords k (read-at .s .given .0 .0 .count)) (c .before .kind-of .ensures)
+kind-of-requires : tie.Need-kind-of-requires Inv-loop μ-loop
+kind-of-requires c κs = search needs
+
+reply-words-requires : tie.Need-reply-words-requires Inv-loop μ-loop
+reply-words-requires c κs = search needs
 
 loop-holds : tie.Need-loop-holds Inv-loop μ-loop
-loop-holds c = going-starts _ _ (omega (arith, length-wordsOf (c .before .args .datagram .now)))
+loop-holds c = going-starts _ _ (omega (arith, length-wordsOf (c .before .before .before .args .datagram .now)))
 
 step-at-requires : tie.Need-step-at-requires Inv-loop μ-loop
 step-at-requires c κs = search needs
@@ -62,41 +70,41 @@ returns c =
 add-answer : tie.Need-add-answer Inv-loop μ-loop
 add-answer c = let g = at-loop (c .before) .loop .inv in omega (arith, g .small, g .within, g .most)
 
-kind-of-requires : tie.Need-kind-of-requires Inv-loop μ-loop
-kind-of-requires c κs = search needs
-
-reply-words-requires : tie.Need-reply-words-requires Inv-loop μ-loop
-reply-words-requires c κs = search needs
+mul-answer : tie.Need-mul-answer Inv-loop μ-loop
+mul-answer c =
+    let a = c .before .before in
+    let g = at-loop a .loop .inv in
+    omega (arith, going-small g _ (was-read a), g .within, g .most, reply-is a)
 
 add-answer-2 : tie.Need-add-answer-2 Inv-loop μ-loop
 add-answer-2 c =
-    let a = read-at c in
+    let a = c .before .before in
     let g = at-loop a .loop .inv in
-    omega (arith, going-small g _ (was-read a), g .within, g .most, reply-is c)
+    omega (arith, going-small g _ (was-read a), g .within, g .most, reply-is a)
 
 end-requires : tie.Need-end-requires Inv-loop μ-loop
 end-requires c κs = search needs
 
 returns-2 : tie.Need-returns-2 Inv-loop μ-loop
 returns-2 c =
-    let a = read-at (c .before .before) in
-    c .end .ensures ∙ rw (reply-is (c .before .before)) (going-last (at-loop a .loop .inv) _ (was-read a) (c .before .if1 .taken))
+    let a = c .before .before .before .before in
+    c .end .ensures ∙ rw (reply-is a) (going-last (at-loop a .loop .inv) _ (was-read a) (c .before .if1 .taken))
 
 add-at : tie.Need-add-at Inv-loop μ-loop
-add-at c = let g = at-loop (read-at (c .before)) .loop .inv in omega (arith, g .within, g .most)
+add-at c = let g = at-loop (c .before .before .before) .loop .inv in omega (arith, g .within, g .most)
 
 add-at-2 : tie.Need-add-at-2 Inv-loop μ-loop
 add-at-2 c =
-    let a = read-at (c .before .before) in
+    let a = c .before .before .before .before in
     omega (arith, got _ _ _ _ (was-read a) .within, at-loop a .loop .inv .most)
 
 loop-less : tie.Need-loop-less Inv-loop μ-loop
-loop-less c = let a = read-at (c .before .before) in going-less (at-loop a .loop .inv) _ (was-read a)
+loop-less c = let a = c .before .before .before .before in going-less (at-loop a .loop .inv) _ (was-read a)
 
 loop-again : tie.Need-loop-again Inv-loop μ-loop
 loop-again c =
-    let a = read-at (c .before .before) in
-    rw (reply-is (c .before .before)) (going-on (at-loop a .loop .inv) _ (was-read a) (c .before .if1 .left))
+    let a = c .before .before .before .before in
+    rw (reply-is a) (going-on (at-loop a .loop .inv) _ (was-read a) (c .before .if1 .left))
 
 pub walk-on-spec : {M : Type 1} → statement M
 walk-on-spec =
@@ -104,6 +112,8 @@ walk-on-spec =
     (tie.spec
     Inv-loop
     μ-loop
+    kind-of-requires
+    reply-words-requires
     loop-holds
     step-at-requires
     enum-known-s
@@ -111,8 +121,7 @@ walk-on-spec =
     refusal-of-requires
     returns
     add-answer
-    kind-of-requires
-    reply-words-requires
+    mul-answer
     add-answer-2
     end-requires
     returns-2
