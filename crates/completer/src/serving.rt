@@ -1,7 +1,7 @@
 // The controller's call: the verdict on a datagram, and what follows from it.
 ghost use mathlib.Core.Path.{_≡_};
 ghost use mathlib.Core.Bool.{true, false, cond};
-ghost use Prim.Native.Nat.{_*_, _≤_, _<_};
+ghost use Prim.Native.Nat.{_*_, _≤_};
 ghost use lib.ListN.{length};
 ghost use Rattle.message.specs.Limits.{limit};
 ghost use Rattle.message.specs.Request.{Means, read};
@@ -59,13 +59,6 @@ fn rule(tags: TagRecord, byte0: u32) -> Verdict
     })
 }
 
-// A byte as a number.
-fn wide(x: u8) -> u32
-    ensures { λ r. ⌜ (r ≡ x) × (r < 256) ⌝ }
-{
-    x as u32
-}
-
 // The verdict on any datagram where what is lent is right: 2 to 10, then by the tag.
 fn judge(tags: TagRecord, datagram: &[u8]) -> Verdict
     requires { ⌜ recordOk tags ≡ true ⌝ }
@@ -74,7 +67,7 @@ fn judge(tags: TagRecord, datagram: &[u8]) -> Verdict
     let walked = walk::walk(datagram);
     match walked {
         Walked::Malformed(refusal) => Verdict::Refused(refusal),
-        Walked::WellFormed(_) => rule(tags, wide(datagram[0])),
+        Walked::WellFormed(_) => rule(tags, word::wide(datagram[0])),
     }
 }
 
@@ -194,7 +187,7 @@ fn act(
     ensures { λ r. ⌜ ServesBy (cond keep New Discovery) (now (memory .entry)) (now (stored .entry)) (now (output .entry)) tags (asked (now (datagram .entry))) r
         (now (memory .exit)) (now (stored .exit)) (now (output .exit)) ⌝ }
 {
-    let byte0 = wide(datagram[0]);
+    let byte0 = word::wide(datagram[0]);
     let n = carrying::carry(
         memory,
         stored,

@@ -1,6 +1,6 @@
 -- The premises of a night, decided by computation: `always-so`. Cited by Example.antt and Sharp.antt. Assumes nothing.
 use Prim.Native.Nat.{ℕ, _+_}
-use mathlib.Core.Path.{_≡_, refl}
+use mathlib.Core.Path.{_≡_}
 use mathlib.Core.Bool.{Bool, true, false, cond, _&&_, false≢true}
 use mathlib.Core.List.{List, [], _∷_}
 use native.Mathlib.Omega.{arith}
@@ -17,12 +17,9 @@ use Rattle.initiator.specs.Sender.{asksAs}
 use Rattle.once.specs.Runs.{Always}
 use Rattle.once.specs.World.{World, Event, offer, send, arrive, back, other, Origin, message, stranger, finished, sent, given, room, step}
 use Rattle.once.specs.Promise.{Ages, Timely, Allowed}
+use Rattle.once.proofs.Checked.{both-true}
 use Rattle.exchange.specs.Ends.{ends}
 use Rattle.exchange.specs.Terms.{findsOnly, terms}
-
-both-true : (a b : Bool) → (a && b) ≡ true → (a ≡ true) × (b ≡ true)
-both-true true b e = (refl, e)
-both-true false b e = absurd (false≢true e)
 
 -- each premise as a test, and that it tests the premise
 abbrev below? : ℕ → List ℕ → Bool

@@ -158,13 +158,6 @@ fn look_through(request: &[u8], answer: &[u8], byte0: u32, k: usize) -> Outcome
     }
 }
 
-// A byte as a number.
-fn wide(x: u8) -> u32
-    ensures { λ r. ⌜ (r ≡ x) × (r < 256) ⌝ }
-{
-    x as u32
-}
-
 // What an answer tells of its request and of command k: refused by 31 (its tag clause aside) to 35, or what it holds.
 pub fn told(request: &[u8], answer: &[u8], k: usize) -> Outcome
     ensures { λ r. ⌜ r ≡ outcomeOf (now (request .entry)) (now (answer .entry)) k ⌝ }
@@ -175,7 +168,7 @@ pub fn told(request: &[u8], answer: &[u8], k: usize) -> Outcome
             number: refusals::REQUEST,
         });
     };
-    let byte0 = wide(request[0]);
+    let byte0 = word::wide(request[0]);
     if header::discovery(byte0) {
         return refused(Refusal {
             number: refusals::REQUEST,
@@ -186,7 +179,7 @@ pub fn told(request: &[u8], answer: &[u8], k: usize) -> Outcome
             number: Refusal::ANSWER_LENGTH,
         });
     }
-    if wide(answer[0]) != answer::answer_byte(byte0) {
+    if word::wide(answer[0]) != answer::answer_byte(byte0) {
         return refused(Refusal {
             number: Refusal::ANSWER_BYTE0,
         });

@@ -50,7 +50,7 @@ impl Sender {
                 number: Refusal::ANSWER_LENGTH,
             });
         }
-        if wide(answer[0]) != answer::answer_byte(byte0) {
+        if word::wide(answer[0]) != answer::answer_byte(byte0) {
             return spoilt(Refusal {
                 number: Refusal::ANSWER_BYTE0,
             });
@@ -124,13 +124,6 @@ fn started(w: u32) -> Moved
     }
 }
 
-// A byte as a number.
-fn wide(x: u8) -> u32
-    ensures { λ r. ⌜ (r ≡ x) × (r < 256) ⌝ }
-{
-    x as u32
-}
-
 // Whether a message may be offered or sent under this next tag: well-formed, no discovery, of this tag.
 fn asks_as(next: u32, message: &[u8]) -> bool
     ensures { λ r. ⌜ r ≡ asksAs next (read (now (message .entry))) ⌝ }
@@ -139,7 +132,7 @@ fn asks_as(next: u32, message: &[u8]) -> bool
     let Walked::WellFormed(_) = walked else {
         return false;
     };
-    let byte0 = wide(message[0]);
+    let byte0 = word::wide(message[0]);
     if header::discovery(byte0) {
         return false;
     }

@@ -1,7 +1,7 @@
 // The message rules: what a header says, what the commands of a datagram are, and which datagrams are refused. The controller's
 // and the loader's end stand above it and know it by its contracts and laws.
 //
-// The contracts cite specs/: one short definition for each sentence of document 01, in the file named after the module.
+// The contracts cite specs/: one short definition for each sentence of document 01, in the file named after what it is about.
 pub mod answer;
 pub mod faults;
 pub mod header;

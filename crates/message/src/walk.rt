@@ -1,6 +1,6 @@
 // The walk of a request: one step at a header, and the whole of any datagram.
 ghost use mathlib.Core.Path.{_≡_};
-ghost use Prim.Native.Nat.{_<_, _≤_};
+ghost use Prim.Native.Nat.{_≤_};
 ghost use mathlib.Core.Bool.{true};
 ghost use lib.ListN.{length};
 ghost use Rattle.word.specs.Words.{wordsOf};
@@ -151,13 +151,6 @@ fn walk_on(datagram: &[u8], byte0: u32) -> Walked
     }
 }
 
-// A byte as a number.
-fn wide(x: u8) -> u32
-    ensures { λ r. ⌜ (r ≡ x) × (r < 256) ⌝ }
-{
-    x as u32
-}
-
 // The walk of any datagram: the words of the all-OK answer, or the refusal 2 to 10.
 pub fn walk(datagram: &[u8]) -> Walked
     ensures { λ r. ⌜ r ≡ walkOf (now (datagram .entry)) ⌝ }
@@ -167,5 +160,5 @@ pub fn walk(datagram: &[u8]) -> Walked
             number: Refusal::LENGTH,
         });
     }
-    walk_on(datagram, wide(datagram[0]))
+    walk_on(datagram, word::wide(datagram[0]))
 }

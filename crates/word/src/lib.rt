@@ -12,8 +12,8 @@ ghost use lib.ListN.{length, getD};
 ghost use Rattle.word.specs.Words.{wordsOf, putWords};
 ghost use Rattle.word.specs.Enables.{merged};
 
-// A byte as a number that can be shifted up.
-fn wide(x: u8) -> u32
+// A byte as a number.
+pub fn wide(x: u8) -> u32
     ensures { λ r. ⌜ (r ≡ x) × (r < 256) ⌝ }
 {
     x as u32
