@@ -3,3 +3,4 @@ pub mod Rules
 pub mod Runs
 pub mod Crossing
 pub mod Places
+pub mod Masks

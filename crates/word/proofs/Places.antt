@@ -26,7 +26,8 @@ byte-of (suc n) (suc k) b h l =
     let e : (b 0 + 256 * ofBytes n (λ i. b (suc i))) / 256 ≡ ofBytes n (λ i. b (suc i)) = omega (arith, l 0) in
     ap (byteOf k) e ∙ byte-of n k (λ i. b (suc i)) (le-of-suc-le-suc h) (λ i. l (suc i))
 
-chosen-lt : (t : Bool) (x y : ℕ) → x < 256 → y < 256 → cond t x y < 256
+-- either of two bytes is a byte
+pub chosen-lt : (t : Bool) (x y : ℕ) → x < 256 → y < 256 → cond t x y < 256
 chosen-lt true x y p q = p
 chosen-lt false x y p q = q
 

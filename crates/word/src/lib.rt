@@ -5,9 +5,7 @@ pub mod run;
 
 ghost use mathlib.Core.Path.{_≡_};
 ghost use Prim.Native.Nat.{_+_, _*_, _<_, _≤_};
-ghost use mathlib.Core.Bool.{cond};
 ghost use mathlib.Core.List.{_∷_, []};
-ghost use lib.Dec.{eqb};
 ghost use lib.ListN.{length, getD};
 ghost use Rattle.word.specs.Words.{wordsOf, putWords};
 ghost use Rattle.word.specs.Enables.{merged};
@@ -40,12 +38,13 @@ pub fn put_word(out: &mut [u8], i: usize, w: u32)
     out[at + 3] = (w / 16777216 % 256) as u8;
 }
 
-// The new byte where its enable bit is 1, else the old one.
-fn chosen(bit: u32, new: u32, old: u32) -> u32
-    requires { ⌜ (new < 256) × (old < 256) ⌝ }
-    ensures { λ r. ⌜ (r ≡ cond (eqb bit 1) new old) × (r < 256) ⌝ }
+// The bits of a word that the enables cover: ones merged into zeros. The product has a copy of the four enables every 7 bits, so
+// that bit i stands lowest in byte i. Each byte is then 0 or 1, and adding 0x7F and taking its bits away again makes 0 or 0xFF of it.
+fn covered(enables: u32) -> u32
+    ensures { λ r. ⌜ r ≡ merged 0 0xFFFF_FFFF enables ⌝ }
 {
-    if bit == 1 { new } else { old }
+    let lowest = enables % 16 * 0x20_4081 & 0x0101_0101;
+    (lowest + 0x7F7F_7F7F) ^ 0x7F7F_7F7F
 }
 
 // The old word with the enabled bytes of the new one: bit i of enables covers byte i, and bits 4 and up cover none. A whole word,
@@ -56,8 +55,5 @@ pub fn merge(old: u32, new: u32, enables: u32) -> u32
     if enables == 15 {
         return new;
     }
-    chosen(enables % 2, new % 256, old % 256)
-        + 256 * chosen(enables / 2 % 2, new / 256 % 256, old / 256 % 256)
-        + 65536 * chosen(enables / 4 % 2, new / 65536 % 256, old / 65536 % 256)
-        + 16777216 * chosen(enables / 8 % 2, new / 16777216 % 256, old / 16777216 % 256)
+    old ^ ((old ^ new) & covered(enables))
 }
