@@ -1,5 +1,6 @@
 //! Links the two static libraries, from the directory that the variable CHARKHAVO_LIBRARIES
-//! names or else from where `rt staticlib` puts them.
+//! names or else from where `rt staticlib` puts them; with the feature `before` also the
+//! earlier controller that `host/speed` puts there.
 
 use std::env;
 use std::path::{Path, PathBuf};
@@ -12,6 +13,9 @@ fn main() {
     println!("cargo::rustc-link-search=native={}", place.display());
     for name in ["controller", "loader"] {
         link(&place, name);
+    }
+    if env::var_os("CARGO_FEATURE_BEFORE").is_some() {
+        link(&place, "before");
     }
 }
 

@@ -1,9 +1,9 @@
 //! Times controllers alike: the same datagrams, the same buffers at the same addresses, filled
-//! the same way before each round, rounds of the two interleaved, the median of each taken.
+//! the same way before each round, rounds of all interleaved, the median of each taken.
 
 use crate::limits::{BYTES, WORDS};
 use crate::plain::message::Header;
-use crate::random::bytes_of;
+use crate::random::{bytes_of, Random};
 use crate::{ffi, plain};
 use std::hint::black_box;
 use std::time::Instant;
@@ -25,11 +25,12 @@ pub trait Controller {
     ) -> (u32, usize);
 }
 
-/// The proved controller, straight through its library.
-pub struct Proved;
+/// A proved controller, straight through its library: this one, or an earlier one where the
+/// build was given one.
+pub struct Proved<const EARLIER: bool>;
 
-impl Controller for Proved {
-    const NAME: &'static str = "proved";
+impl<const EARLIER: bool> Controller for Proved<EARLIER> {
+    const NAME: &'static str = if EARLIER { "before" } else { "proved" };
     type Record = ffi::TagRecord;
 
     fn fresh() -> ffi::TagRecord {
@@ -44,6 +45,11 @@ impl Controller for Proved {
         tags: &mut ffi::TagRecord,
         datagram: &[u8],
     ) -> (u32, usize) {
+        #[cfg(feature = "before")]
+        if EARLIER {
+            let served = ffi::before::serve(memory, stored, output, tags, datagram);
+            return (served.refusal.number, served.sent);
+        }
         let served = ffi::serve(memory, stored, output, tags, datagram);
         (served.refusal.number, served.sent)
     }
@@ -89,14 +95,21 @@ pub fn cases() -> Vec<Case> {
     let mut repeat = tags(&format!("repeat of a {reads}"), |tag| read(tag, WORDS - 1));
     repeat.datagrams.truncate(1);
     vec![
-        tags("write of 1 word", |tag| writes(tag, 1, 1, 0xF, 0)),
-        tags(&format!("{many} writes of 1 word"), |tag| writes(tag, many, 1, 0xF, 0)),
-        tags(&format!("write of {} words", WORDS - 2), |tag| writes(tag, 1, WORDS - 2, 0xF, 0xF)),
+        tags("write of 1 word", |tag| writes(tag, 1, 1, || 0x0F)),
+        tags(&format!("{many} writes of 1 word"), |tag| writes(tag, many, 1, || 0x0F)),
+        tags(&format!("write of {} words", WORDS - 2), |tag| writes(tag, 1, WORDS - 2, || 0xFF)),
         tags("read of 1 word", |tag| read(tag, 1)),
         tags(&reads, |tag| read(tag, WORDS - 1)),
         repeat,
-        tags("write of 1 word, 2 bytes enabled", |tag| writes(tag, 1, 1, 0x6, 0)),
-        tags("write of 2 words, 3 bytes enabled", |tag| writes(tag, 1, 2, 0xC, 0x1)),
+        tags("write of 1 word, 2 bytes enabled", |tag| writes(tag, 1, 1, || 0x06)),
+        tags("write of 2 words, 3 bytes enabled", |tag| writes(tag, 1, 2, || 0x1C)),
+        tags(&format!("{many} writes of 1 word, 2 bytes enabled"), |tag| {
+            writes(tag, many, 1, || 0x06)
+        }),
+        tags(&format!("{many} writes of 1 word, half of them so"), |tag| {
+            let mut random = Random::new(tag.into());
+            writes(tag, many, 1, || random.pick(&[0x0F, 0x06]))
+        }),
         tags("discovery (a NOP of 2 words)", |_| plain::sender::DISCOVERY.to_vec()),
     ]
 }
@@ -106,12 +119,13 @@ fn tags(name: &str, datagram: impl Fn(u32) -> Vec<u8>) -> Case {
     Case { name: name.into(), datagrams: (0..16).map(datagram).collect() }
 }
 
-/// A message of some writes alike, each to a place of its own.
-fn writes(tag: u32, commands: usize, count: usize, first: u32, last: u32) -> Vec<u8> {
+/// A message of some writes, each to a place of its own, its enables (byte 1 of the
+/// header) asked for.
+fn writes(tag: u32, commands: usize, count: usize, mut enables: impl FnMut() -> u32) -> Vec<u8> {
     let mut words = Vec::new();
     for command in 0..commands {
         let ends = if command + 1 == commands { Header::LAST } else { 0 };
-        words.push(Header::new(tag | 1 << 4, first | last << 4, count).0 | ends);
+        words.push(Header::new(tag | 1 << 4, enables(), count).0 | ends);
         words.push(4 * (tag + (7 * command % (MEMORY / 2)) as u32));
         words.extend((0..count as u32).map(|word| 0x0101_0101 * (tag + word)));
     }
@@ -149,28 +163,49 @@ impl Buffers {
     }
 }
 
-/// Two medians, in nanoseconds a message.
-pub struct Times {
-    pub ours: f64,
-    pub plain: f64,
+/// A controller's round: so many messages of a case, in nanoseconds a message.
+type Round = fn(&Case, &mut Buffers, usize) -> f64;
+
+/// A controller to be timed.
+pub struct Timed {
+    pub name: &'static str,
+    round: Round,
 }
 
-/// Times a controller beside the plain one, which goes first in every other round.
-pub fn compare<C: Controller>(case: &Case, rounds: usize, messages: usize) -> Times {
+impl Timed {
+    fn new<C: Controller>() -> Timed {
+        Timed { name: C::NAME, round: round::<C> }
+    }
+}
+
+/// The controllers of the measurement, ours first.
+pub fn controllers() -> Vec<Timed> {
+    vec![
+        Timed::new::<Proved<false>>(),
+        Timed::new::<Plain>(),
+        #[cfg(feature = "before")]
+        Timed::new::<Proved<true>>(),
+    ]
+}
+
+/// Times controllers beside each other, each going first in its turn; gives their medians.
+pub fn compare(case: &Case, controllers: &[Timed], rounds: usize, messages: usize) -> Vec<f64> {
     let mut buffers = Buffers::new();
-    let (mut ours, mut plain) = (Vec::new(), Vec::new());
+    let mut times = vec![Vec::new(); controllers.len()];
     for number in 0..rounds {
-        if number % 2 == 0 {
-            plain.push(round::<Plain>(case, &mut buffers, messages));
-            let left = buffers.contents();
-            ours.push(round::<C>(case, &mut buffers, messages));
-            assert!(left == buffers.contents(), "{}: the two do not do the same", case.name);
-        } else {
-            ours.push(round::<C>(case, &mut buffers, messages));
-            plain.push(round::<Plain>(case, &mut buffers, messages));
+        let compared = number % controllers.len() == 0;
+        let mut left = None;
+        for turn in 0..controllers.len() {
+            let which = (number + turn) % controllers.len();
+            times[which].push((controllers[which].round)(case, &mut buffers, messages));
+            if compared {
+                let contents = buffers.contents();
+                let same = *left.get_or_insert_with(|| contents.clone()) == contents;
+                assert!(same, "{}: {} does another thing", case.name, controllers[which].name);
+            }
         }
     }
-    Times { ours: median(ours), plain: median(plain) }
+    times.into_iter().map(median).collect()
 }
 
 /// One round; gives nanoseconds a message.

@@ -1,19 +1,28 @@
-//! Prints, for each case, the time of a message by the proved controller and by the plain one.
+//! Prints, for each case, the time of a message by the proved controller, by the plain one and,
+//! where the build was given one, by an earlier one; the ratios are the first's over the other's.
 //!
 //! Arguments: rounds (1,001 if not given), messages a round (1,000 if not given): a million
 //! messages, in rounds short enough that most run undisturbed by other programs.
 
-use charkhavo_host::timed::{cases, compare, Controller, Plain, Proved};
+use charkhavo_host::timed::{cases, compare, controllers};
 
 fn main() {
     let mut arguments = std::env::args().skip(1).map(|number| number.parse());
     let mut next = |otherwise| arguments.next().map_or(otherwise, |n| n.expect("a number"));
     let (rounds, messages) = (next(1_001), next(1_000));
+    let controllers = controllers();
     println!("nanoseconds a message, medians of {rounds} rounds of {messages} messages");
-    println!("{:<36}{:>10}{:>10}{:>8}", "", Proved::NAME, Plain::NAME, "ratio");
+    print!("{:<40}{:>8}", "", controllers[0].name);
+    for other in &controllers[1..] {
+        print!("{:>10}{:>8}", other.name, "ratio");
+    }
+    println!();
     for case in cases() {
-        let times = compare::<Proved>(&case, rounds, messages);
-        let ratio = times.ours / times.plain;
-        println!("{:<36}{:>10.1}{:>10.1}{:>8.2}", case.name, times.ours, times.plain, ratio);
+        let times = compare(&case, &controllers, rounds, messages);
+        print!("{:<40}{:>8.1}", case.name, times[0]);
+        for other in &times[1..] {
+            print!("{:>10.1}{:>8.2}", other, times[0] / other);
+        }
+        println!();
     }
 }

@@ -11,6 +11,8 @@
 
 #![allow(unsafe_code)]
 
+#[cfg(feature = "before")]
+pub mod before;
 mod c;
 
 pub use c::TagRecord;
