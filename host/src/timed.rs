@@ -47,7 +47,7 @@ impl<const EARLIER: bool> Controller for Proved<EARLIER> {
     ) -> (u32, usize) {
         #[cfg(feature = "before")]
         if EARLIER {
-            let served = ffi::before::serve(memory, stored, output, tags, datagram);
+            let served = ffi::serve_before(memory, stored, output, tags, datagram);
             return (served.refusal.number, served.sent);
         }
         let served = ffi::serve(memory, stored, output, tags, datagram);

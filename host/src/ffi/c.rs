@@ -87,20 +87,31 @@ pub struct Part {
 }
 
 // A slice is passed as its pointer and its length.
-extern "C" {
-    // libcontroller.a
-    pub(super) fn charkhavo_serve(
-        memory: *mut u32,
-        memory_length: usize,
-        stored: *mut u32,
-        stored_length: usize,
-        output: *mut u8,
-        output_length: usize,
-        tags: *mut TagRecord,
-        datagram: *const u8,
-        datagram_length: usize,
-    ) -> Sent;
 
+// libcontroller.a, and for comparison an earlier one, whose function `host/speed` renames
+macro_rules! serving {
+    ($call:ident) => {
+        extern "C" {
+            pub(super) fn $call(
+                memory: *mut u32,
+                memory_length: usize,
+                stored: *mut u32,
+                stored_length: usize,
+                output: *mut u8,
+                output_length: usize,
+                tags: *mut TagRecord,
+                datagram: *const u8,
+                datagram_length: usize,
+            ) -> Sent;
+        }
+    };
+}
+
+serving!(charkhavo_serve);
+#[cfg(feature = "before")]
+serving!(charkhavo_serve_before);
+
+extern "C" {
     // libloader.a
     pub(super) fn charkhavo_refusal(request: *const u8, request_length: usize) -> Number;
     pub(super) fn charkhavo_begin(
