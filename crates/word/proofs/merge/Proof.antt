@@ -1,9 +1,8 @@
--- `word::merge` meets its contract: the whole word, or the old word's enabled bytes taken out and the new word's put in. Assumes nothing.
+-- `word::merge` meets its contract: the whole word, or what differs exchanged under the mask. Assumes nothing.
 use native.Mathlib.Omega.{arith}
 use mathlib.Core.Path.{sym, ap, _∙_}
-use lib.Bits.{and-le-l}
 use Rattle.word.specs.Enables.{merged}
-use Rattle.word.proofs.Places.{merge-lt, merge-whole}
+use Rattle.word.proofs.Places.{merge-whole}
 use Rattle.word.proofs.Masks.{merge-under}
 use borrow.Author.Needs.{needs}
 use Rattle.word.proofs.merge.Statement.{statement}
