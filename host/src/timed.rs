@@ -45,6 +45,7 @@ impl<const EARLIER: bool> Controller for Proved<EARLIER> {
         tags: &mut ffi::TagRecord,
         datagram: &[u8],
     ) -> (u32, usize) {
+        const { assert!(!EARLIER || cfg!(feature = "before"), "no earlier one is linked") };
         #[cfg(feature = "before")]
         if EARLIER {
             let served = ffi::serve_before(memory, stored, output, tags, datagram);

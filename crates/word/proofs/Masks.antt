@@ -3,14 +3,13 @@ use Prim.Native.Nat.{ℕ, zero, suc, _+_, _*_, _^_, _/_, _%_, _<_, _≤_, suc-le
 use mathlib.Core.Path.{_≡_, refl, sym, ap, ap₂, _∙_}
 use mathlib.Core.Bool.{Bool, true, false, cond, _&&_}
 use native.Mathlib.Omega.{arith}
-use native.Mathlib.Nat.{not-suc-le-zero, le-of-suc-le-suc, div-div-eq-div-mul}
+use native.Mathlib.Nat.{not-suc-le-zero, le-of-suc-le-suc}
 use lib.Arith.{bin-ind}
 use lib.Dec.{T, eqb, eqb→eq, lit<}
 use lib.Bits.{differ, bitAnd, bitXor, and-block, xor-block, and-mask, and-zero-r, xor-zero-r, xor-step, xor-shr, xor-lt, and-lt, and-le-r, block-half, block-odd}
 use lib.Ieee.Fits.{and-l, and-r}
 use Rattle.word.specs.Enables.{byteOf, bitOf, ofBytes, merged}
-use Rattle.word.proofs.Crossing.{word-four}
-use Rattle.word.proofs.Places.{byte-lt, chosen-lt}
+use Rattle.word.proofs.Places.{byte-lt, chosen-lt, merge-whole}
 
 -- numbers of the same bytes
 same-bytes : (n : ℕ) (a b : ℕ → ℕ) → ((i : ℕ) → i < n → a i ≡ b i) → ofBytes n a ≡ ofBytes n b
@@ -18,10 +17,10 @@ unfolding ofBytes
 same-bytes zero a b h = refl
 same-bytes (suc n) a b h = omega (arith, h 0 (omega arith), same-bytes n (λ i. a (suc i)) (λ i. b (suc i)) (λ i l. h (suc i) (suc-le-suc l)))
 
--- a word is its bytes
+-- a word is its bytes: all four merged are it
 own-bytes : (w : ℕ) → w < 4294967296 → ofBytes 4 (λ i. byteOf i w) ≡ w
-unfolding ofBytes byteOf
-own-bytes w h = simp div-div-eq-div-mul (omega (arith, word-four w h))
+unfolding merged ofBytes bitOf
+own-bytes w h = merge-whole 0 w h
 
 -- an operation on bits is one on each byte
 module _ (op : ℕ → ℕ → ℕ) (none : op 0 0 ≡ 0)
@@ -37,7 +36,7 @@ module _ (op : ℕ → ℕ → ℕ) (none : op 0 0 ≡ 0)
       ap₂ op p q ∙ block 8 x y (a 0) (b 0) (h 0) (k 0)
       ∙ omega (arith, op-bytes n (λ i. a (suc i)) (λ i. b (suc i)) (λ i. h (suc i)) (λ i. k (suc i)))
 
--- what differs from a in the bits in which a differs from b is b
+-- what differs from a in the bits in which a differs from b is b: of one bit, then of all
 differ-back : (x y : ℕ) → x < 2 → y < 2 → differ x (differ x y) ≡ y
 differ-back zero y h k = refl
 differ-back (suc zero) zero h k = refl

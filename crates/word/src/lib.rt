@@ -39,7 +39,7 @@ pub fn put_word(out: &mut [u8], i: usize, w: u32)
 }
 
 // The bits of a word that the enables cover: ones merged into zeros. The product has a copy of the four enables every 7 bits, so
-// that bit i stands lowest in byte i. Each byte is then 0 or 1, and adding 0x7F and taking its bits away again makes 0 or 0xFF of it.
+// that bit i stands lowest in byte i. Each byte is then 0 or 1; with 0x7F added 0x7F or 0x80, which differ from 0x7F by 0 or 0xFF.
 fn covered(enables: u32) -> u32
     ensures { λ r. ⌜ r ≡ merged 0 0xFFFF_FFFF enables ⌝ }
 {
