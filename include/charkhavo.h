@@ -175,11 +175,13 @@ typedef struct CharkhavoBuilding {
     bool closed;
 } CharkhavoBuilding;
 
-/* A command to be added. What its kind has no use for is not looked at. */
+/* A command to be added. What its kind has no use for is not looked at. With two words at an address
+   that is no multiple of 8, and with three words or more, a write's enables have no gap inside: first
+   is F, E, C or 8 and last F, 7, 3 or 1. */
 typedef struct CharkhavoAsked {
     uint64_t address;  /* writes and reads */
     uint32_t first;    /* writes: the byte enables of the first word; bit i covers byte i */
-    uint32_t last;     /* writes: those of the last word; 0 with one word */
+    uint32_t last;     /* writes: those of the last word; 0 with one word and only then */
     size_t count;      /* reads: how many words */
 } CharkhavoAsked;
 

@@ -43,7 +43,9 @@ pub struct Head {
     pub discovery: bool,
 }
 
-/// Which bytes of a write's first and last word are written; bit i covers byte i.
+/// Which bytes of a write's first and last word are written; bit i covers byte i. With three
+/// words or more, and with two at an address that is no multiple of 8, there is no gap inside:
+/// the first field is F, E, C or 8 and the last F, 7, 3 or 1.
 #[derive(Clone, Copy, Debug, PartialEq, Eq)]
 pub struct Enables {
     /// 0 to 15, and not 0 with two words or more.

@@ -98,6 +98,7 @@ pub fn cases() -> Vec<Case> {
     vec![
         tags("write of 1 word", |tag| writes(tag, 1, 1, || 0x0F)),
         tags(&format!("{many} writes of 1 word"), |tag| writes(tag, many, 1, || 0x0F)),
+        tags(&format!("{} writes of 2 words", WORDS / 4), |tag| writes(tag, WORDS / 4, 2, || 0xFF)),
         tags(&format!("write of {} words", WORDS - 2), |tag| writes(tag, 1, WORDS - 2, || 0xFF)),
         tags("read of 1 word", |tag| read(tag, 1)),
         tags(&reads, |tag| read(tag, WORDS - 1)),

@@ -62,8 +62,10 @@ fn serve(
         say(b" words");
         sent_words(output, served.sent / 4);
     }
-    word_of(b"; words 0 and 1 ", memory[0]);
+    word_of(b"; words 0 to 3 ", memory[0]);
     word_of(b" ", memory[1]);
+    word_of(b" ", memory[2]);
+    word_of(b" ", memory[3]);
     let tags = served.tags;
     say_tags(tags);
     tags
@@ -206,6 +208,28 @@ fn errors(stored: &mut [u32; message::LIMIT], output: &mut [u8; message::LIMIT_B
     );
 }
 
+// Writes of two words with gaps inside their enables: allowed at a multiple of 8 alone.
+fn gaps(stored: &mut [u32; message::LIMIT], output: &mut [u8; message::LIMIT_BYTES]) {
+    let fresh = TagRecord::fresh();
+    let mut memory = bench();
+    line(
+        b"* gaps at 8",
+        &mut memory,
+        stored,
+        output,
+        fresh,
+        &[0x8002_A510, 8, 0x1122_3344, 0x5566_7788],
+    );
+    line(
+        b"* gaps at 12",
+        &mut memory,
+        stored,
+        output,
+        fresh,
+        &[0x8002_A510, 12, 0x1122_3344, 0x5566_7788],
+    );
+}
+
 // The lines that are run only.
 fn refusals(stored: &mut [u32; message::LIMIT], output: &mut [u8; message::LIMIT_BYTES]) {
     let fresh = TagRecord::fresh();
@@ -266,6 +290,7 @@ fn main() {
     tagged(&mut stored, &mut output);
     out_of_step(&mut stored, &mut output);
     errors(&mut stored, &mut output);
+    gaps(&mut stored, &mut output);
     refusals(&mut stored, &mut output);
     lengths(&mut stored, &mut output);
 }

@@ -2,15 +2,18 @@
 // its refusal, 0 for none, then the record, and the words of what was closed.
 use initiator::asked::Asked;
 use initiator::build;
-use initiator::building::Building;
 
 mod print;
+mod refused;
 
-const NOP: u32 = 0;
+pub(crate) const NOP: u32 = 0;
 
-const WRITE: u32 = 1;
+pub(crate) const WRITE: u32 = 1;
 
-const READ: u32 = 2;
+pub(crate) const READ: u32 = 2;
+
+// The two words of the bench sheet's writes with gaps inside their enables.
+pub(crate) const GAPPED: [u32; 2] = [0x1122_3344, 0x5566_7788];
 
 // What begin takes.
 struct Start {
@@ -29,22 +32,8 @@ fn starts(kind: u32, tag: u32, wide: bool, discovery: bool) -> Start {
     }
 }
 
-// A record as a caller may hand it in.
-fn held(kind: u32, words: usize, last: usize, answer: usize, closed: bool) -> Building {
-    Building {
-        kind,
-        tag: 0,
-        wide: false,
-        discovery: false,
-        words,
-        last,
-        answer,
-        closed,
-    }
-}
-
 // A command with no enables, for what looks at none.
-fn plain(address: u64, count: usize) -> Asked {
+pub(crate) fn plain(address: u64, count: usize) -> Asked {
     Asked {
         address,
         first: 0,
@@ -53,7 +42,7 @@ fn plain(address: u64, count: usize) -> Asked {
     }
 }
 
-fn write_at(address: u64, first: u32, last: u32) -> Asked {
+pub(crate) fn write_at(address: u64, first: u32, last: u32) -> Asked {
     Asked {
         address,
         first,
@@ -87,14 +76,6 @@ fn single(start: Start, asked: Asked, words: &[u32]) {
     print::show(&out, b.words);
 }
 
-// The first command of a message.
-fn tried(label: &[u8], kind: u32, asked: Asked, words: &[u32]) {
-    let mut out = [0u8; message::LIMIT_BYTES];
-    let given = build::begin(&out, kind, 0, false, false);
-    let b = given.building;
-    print::told(label, build::add(&mut out, b, asked, words));
-}
-
 // NOPs: the fixed discovery, also as it is kept, and a message of two.
 fn nops(words: &[u32]) {
     let advert = [message::LIMIT_BYTES as u32, 0];
@@ -120,6 +101,12 @@ fn writes_and_reads(words: &[u32]) {
         write_at(4, 15, 0),
         print::some(words, 1),
     );
+    print::say(b"gaps at 8\n");
+    single(
+        starts(WRITE, 0, false, false),
+        write_at(8, 0x5, 0xA),
+        &GAPPED,
+    );
     print::say(b"wide writes, one with no byte enabled, one at 2^64 - 1\n");
     whole(
         starts(WRITE, 1, true, false),
@@ -143,149 +130,6 @@ fn writes_and_reads(words: &[u32]) {
     );
 }
 
-// 21: a short output, a kind, a tag, records that no sequence of calls gives.
-fn unusable() {
-    let out = [0u8; message::LIMIT_BYTES];
-    let short = [0u8; message::LIMIT_BYTES - 1];
-    print::told(
-        b"begin in a byte too few",
-        build::begin(&short, NOP, 0, false, false),
-    );
-    print::told(b"begin kind 3", build::begin(&out, 3, 0, false, false));
-    print::told(b"begin tag 16", build::begin(&out, NOP, 16, false, false));
-    reached(
-        b"a write that ends within its address",
-        held(WRITE, 4, 2, 2, false),
-    );
-    reached(b"closed and empty", held(NOP, 0, 0, 0, true));
-    reached(b"kind 3 in a record", held(3, 0, 0, 0, false));
-}
-
-// What closing says of a record.
-fn reached(label: &[u8], b: Building) {
-    let mut out = [0u8; message::LIMIT_BYTES];
-    print::told(label, build::close(&mut out, b));
-}
-
-// 22: closing with nothing added, adding after closing, closing twice.
-fn out_of_turn(words: &[u32]) {
-    let mut out = [0u8; message::LIMIT_BYTES];
-    reached(b"close with nothing added", held(WRITE, 0, 0, 0, false));
-    reached(b"close twice", held(WRITE, 3, 0, 1, true));
-    print::told(
-        b"add after closing",
-        build::add(
-            &mut out,
-            held(WRITE, 3, 0, 1, true),
-            write_at(0, 15, 0),
-            print::some(words, 1),
-        ),
-    );
-}
-
-// 23: counts.
-fn counts(words: &[u32]) {
-    tried(
-        b"write no words",
-        WRITE,
-        write_at(0, 15, 0),
-        print::some(words, 0),
-    );
-    tried(
-        b"write 4,096 words",
-        WRITE,
-        write_at(0, 15, 15),
-        print::some(words, 4096),
-    );
-    tried(b"read no words", READ, plain(0, 0), print::some(words, 1));
-    tried(
-        b"read 4,097 words",
-        READ,
-        plain(0, 4097),
-        print::some(words, 1),
-    );
-    tried(b"NOP of 3 words", NOP, plain(0, 1), print::some(words, 3));
-}
-
-// 24: enables.
-fn enables(words: &[u32]) {
-    tried(
-        b"write 1, last enables 1",
-        WRITE,
-        write_at(0, 15, 1),
-        print::some(words, 1),
-    );
-    tried(
-        b"write 2, last enables 0",
-        WRITE,
-        write_at(0, 15, 0),
-        print::some(words, 2),
-    );
-    tried(
-        b"write 1, first enables 16",
-        WRITE,
-        write_at(0, 16, 0),
-        print::some(words, 1),
-    );
-    tried(
-        b"write 2, last enables 16",
-        WRITE,
-        write_at(0, 15, 16),
-        print::some(words, 2),
-    );
-}
-
-// 25: addresses of 2^32, and one less.
-fn addresses(words: &[u32]) {
-    tried(
-        b"write at 2^32",
-        WRITE,
-        write_at(4294967296, 15, 0),
-        print::some(words, 1),
-    );
-    tried(
-        b"write at 2^32 - 1",
-        WRITE,
-        write_at(4294967295, 15, 0),
-        print::some(words, 1),
-    );
-    tried(
-        b"read at 2^32",
-        READ,
-        plain(4294967296, 1),
-        print::some(words, 0),
-    );
-}
-
-// 26: a message and an all-OK answer of the limit, and of one word more.
-fn lengths(words: &[u32]) {
-    let most = message::LIMIT;
-    tried(
-        b"message of the limit",
-        WRITE,
-        write_at(0, 15, 15),
-        print::some(words, most - 2),
-    );
-    tried(
-        b"and of one word more",
-        WRITE,
-        write_at(0, 15, 15),
-        print::some(words, most - 1),
-    );
-    tried(
-        b"all-OK answer of the limit",
-        READ,
-        plain(0, most - 1),
-        print::some(words, 0),
-    );
-    tried(
-        b"and of one word more",
-        READ,
-        plain(0, most),
-        print::some(words, 0),
-    );
-}
-
 fn main() {
     let mut words = [0u32; 4096];
     words[0] = 0xFEEDC0DE;
@@ -293,10 +137,11 @@ fn main() {
     words[2] = 0x22222222;
     nops(&words);
     writes_and_reads(&words);
-    unusable();
-    out_of_turn(&words);
-    counts(&words);
-    enables(&words);
-    addresses(&words);
-    lengths(&words);
+    refused::unusable();
+    refused::out_of_turn(&words);
+    refused::counts(&words);
+    refused::enables(&words);
+    refused::gaps(&words);
+    refused::addresses(&words);
+    refused::lengths(&words);
 }

@@ -10,6 +10,7 @@ use Rattle.message.specs.Limits.{limit, limitBytes}
 use Rattle.completer.specs.declared.tags.TagRecord.{TagRecord}
 use Rattle.completer.specs.declared.serving.Verdict.the-variants.{Refused}
 use Rattle.message.specs.Walk.{refusal}
+use Rattle.message.specs.Examples.{gapped}
 use Rattle.completer.specs.Tags.{freshRecord}
 use Rattle.completer.specs.Serving.{After, afterBy, after}
 
@@ -90,6 +91,9 @@ benchSheet =
     ∷ line freshRecord ((0x00010F10 ∷ 0x00000000 ∷ 0x11111111 ∷ 0x80010F10 ∷ 0x00000020 ∷ 0x22222222 ∷ []) ∷ []) 0 (0x00000030 ∷ 0x80000230 ∷ [])
     (memoryWith 0x11111111 0) (holding 0 2)
     ∷ line freshRecord ((0x80010F50 ∷ 0x00000004 ∷ 0x00000001 ∷ 0x00000000 ∷ []) ∷ []) 0 (0x80000270 ∷ []) benchMemory (holding 0 1)
+    -- [3] "Add a bench line for each side, at addresses 8 and 12": carried out, and 8
+    ∷ line freshRecord (gapped 8 ∷ []) 0 (0x80000030 ∷ []) (0 ∷ 0 ∷ 0x00220044 ∷ 0x55007700 ∷ 0xF00DFACE ∷ 0 ∷ 0 ∷ 0 ∷ []) (holding 0 1)
+    ∷ line freshRecord (gapped 12 ∷ []) 8 [] benchMemory freshRecord
     ∷ []
 
 -- every marked line holds

@@ -11,3 +11,4 @@ pub mod Parts
 pub mod Sending
 pub mod Starting
 pub mod Promised
+pub mod Benched

@@ -55,14 +55,14 @@ unfoldable pub countFits : Kind → ℕ → Bool
 countFits kind count = ltb count 4096 && countOk kind count
 
 -- not "24 enables": two fields of four bits each; "NOPs skip 24 and 25, reads skip 24"
-unfoldable pub fieldsOk : ℕ → ℕ → ℕ → Bool
-fieldsOk count first last = ltb first 16 && ltb last 16 && patternOk count first last
+unfoldable pub fieldsOk : ℕ → Asked → Bool
+fieldsOk count asked = ltb (asked .first) 16 && ltb (asked .last) 16 && patternOk count (asked .address) (asked .first) (asked .last)
 
-abbrev pub enablesFit : Kind → ℕ → ℕ → ℕ → Bool
-enablesFit Nop count first last = true
-enablesFit Write count first last = fieldsOk count first last
-enablesFit Read count first last = true
-enablesFit Response count first last = true
+abbrev pub enablesFit : Kind → ℕ → Asked → Bool
+enablesFit Nop count asked = true
+enablesFit Write count asked = fieldsOk count asked
+enablesFit Read count asked = true
+enablesFit Response count asked = true
 
 -- not "25 address of 2^32 or more in 32-bit mode"
 unfoldable pub narrowOk : Bool → ℕ → Bool
@@ -89,6 +89,6 @@ roomFits byte0 words answer count = leb (words + sizeBy byte0 count) limit && le
 unfoldable pub commandFault : ℕ → ℕ → ℕ → Asked → ℕ → ℕ
 commandFault byte0 words answer asked count =
     unless (countFits (kindOf byte0) count) 23
-    (unless (enablesFit (kindOf byte0) count (asked .first) (asked .last)) 24
+    (unless (enablesFit (kindOf byte0) count asked) 24
     (unless (addressFits (kindOf byte0) (wideOf byte0) (asked .address)) 25
     (unless (roomFits byte0 words answer count) 26 0)))

@@ -8,3 +8,4 @@ pub mod Discovery
 pub mod Outcome
 pub mod Sender
 pub mod Promises
+pub mod BenchSheet

@@ -32,13 +32,13 @@ pub(crate) fn count_by(kind: Kind, asked: usize, lent: usize) -> usize
 }
 
 // Byte 1: a write's enables, else 0.
-fn byte1_by(kind: Kind, count: usize, first: u32, last: u32) -> u32
-    requires { ⌜ enablesFit kind count first last ≡ true ⌝ }
-    ensures { λ r. ⌜ (r ≡ byte1By kind first last) × (r < 256) ⌝ }
+fn byte1_by(kind: Kind, count: usize, asked: Asked) -> u32
+    requires { ⌜ enablesFit kind count asked ≡ true ⌝ }
+    ensures { λ r. ⌜ (r ≡ byte1By kind (asked .first) (asked .last)) × (r < 256) ⌝ }
 {
     match kind {
         Kind::Nop => 0,
-        Kind::Write => first + 16 * last,
+        Kind::Write => asked.first + 16 * asked.last,
         Kind::Read => 0,
         Kind::Response => 0,
     }
@@ -66,26 +66,26 @@ fn count_fits(kind: Kind, count: usize) -> bool
     message::faults::count_ok(kind, count)
 }
 
-// Whether these are two fields of four bits that a write of this count may have.
-fn fields_ok(count: usize, first: u32, last: u32) -> bool
-    ensures { λ r. ⌜ r ≡ fieldsOk count first last ⌝ }
+// Whether these are two fields of four bits that a write of this count may have at its address.
+fn fields_ok(count: usize, asked: Asked) -> bool
+    ensures { λ r. ⌜ r ≡ fieldsOk count asked ⌝ }
 {
-    if 16 <= first {
+    if 16 <= asked.first {
         return false;
     }
-    if 16 <= last {
+    if 16 <= asked.last {
         return false;
     }
-    message::faults::pattern_ok(count, first, last)
+    message::faults::pattern_ok(count, asked.address, asked.first, asked.last)
 }
 
-// Whether a command of this kind and count may have these enables: only writes are looked at.
-fn enables_fit(kind: Kind, count: usize, first: u32, last: u32) -> bool
-    ensures { λ r. ⌜ r ≡ enablesFit kind count first last ⌝ }
+// Whether a command of this kind and count may have its enables: only writes are looked at.
+fn enables_fit(kind: Kind, count: usize, asked: Asked) -> bool
+    ensures { λ r. ⌜ r ≡ enablesFit kind count asked ⌝ }
 {
     match kind {
         Kind::Nop => true,
-        Kind::Write => fields_ok(count, first, last),
+        Kind::Write => fields_ok(count, asked),
         Kind::Read => true,
         Kind::Response => true,
     }
@@ -156,7 +156,7 @@ pub(crate) fn command_fault(
     if !count_fits(kind, count) {
         return refusals::COUNT;
     }
-    if !enables_fit(kind, count, asked.first, asked.last) {
+    if !enables_fit(kind, count, asked) {
         return refusals::ENABLES;
     }
     if !address_fits(kind, wide, asked.address) {
@@ -170,9 +170,9 @@ pub(crate) fn command_fault(
 
 // The header of a command that others may follow.
 pub(crate) fn header_by(byte0: u32, asked: Asked, count: usize) -> u32
-    requires { ⌜ (byte0 < 256) × (count < 4096) × (enablesFit (kindOf byte0) count (asked .first) (asked .last) ≡ true) ⌝ }
+    requires { ⌜ (byte0 < 256) × (count < 4096) × (enablesFit (kindOf byte0) count asked ≡ true) ⌝ }
     ensures { λ r. ⌜ r ≡ headerFrom byte0 (byte1By (kindOf byte0) (asked .first) (asked .last)) count false ⌝ }
 {
-    let byte1 = byte1_by(header::kind_of(byte0), count, asked.first, asked.last);
+    let byte1 = byte1_by(header::kind_of(byte0), count, asked);
     header::header_from(byte0, byte1, count, false)
 }

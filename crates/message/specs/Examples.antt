@@ -23,6 +23,13 @@ words ws n = record { datagram = bytesOf ws; number = n }
 abbrev pub bytes : List ℕ → ℕ → Example
 bytes bs n = record { datagram = bs; number = n }
 
+-- a write of 2 words with gaps inside its enables, 5 and A: the bench lines of both ends have it at addresses 8 and 12
+abbrev pub gappedWords : List ℕ
+gappedWords = 0x11223344 ∷ 0x55667788 ∷ []
+
+abbrev pub gapped : ℕ → List ℕ
+gapped address = 0x8002A510 ∷ address ∷ gappedWords
+
 unfoldable pub requests : List Example
 requests =
     -- good ones: a write, a read whose byte 1 is not looked at, a NOP of no words, no byte enabled, two commands, 64 bits
@@ -66,6 +73,20 @@ requests =
     ∷ words (0x80011F10 ∷ 0x00000004 ∷ 0x00000000 ∷ []) 8
     ∷ words (0x8002F010 ∷ 0x00000004 ∷ 0x00000000 ∷ 0x00000000 ∷ []) 8
     ∷ words (0x80020F10 ∷ 0x00000004 ∷ 0x00000000 ∷ 0x00000000 ∷ []) 8
+    -- gaps: at 8, at 12, at an address that is no multiple of 4; in 64 bits, beyond 2^32, at 8 and at 12; with count 3 at 8
+    ∷ words (gapped 8) 0
+    ∷ words (gapped 12) 8
+    ∷ words (gapped 10) 8
+    ∷ words (0x8002A550 ∷ 0x00000008 ∷ 0x00000001 ∷ gappedWords) 0
+    ∷ words (0x8002A550 ∷ 0x0000000C ∷ 0x00000001 ∷ gappedWords) 8
+    ∷ words (0x8003A510 ∷ 0x00000008 ∷ 0x11111111 ∷ 0x22222222 ∷ 0x33333333 ∷ []) 8
+    -- no gaps, at 12: F and F, E and 7, C and 3, 8 and 1; each field of the one list in the other's place
+    ∷ words (0x8002FF10 ∷ 0x0000000C ∷ 0x11111111 ∷ 0x22222222 ∷ []) 0
+    ∷ words (0x80027E10 ∷ 0x0000000C ∷ 0x11111111 ∷ 0x22222222 ∷ []) 0
+    ∷ words (0x80023C10 ∷ 0x0000000C ∷ 0x11111111 ∷ 0x22222222 ∷ []) 0
+    ∷ words (0x80021810 ∷ 0x0000000C ∷ 0x11111111 ∷ 0x22222222 ∷ []) 0
+    ∷ words (0x8002F710 ∷ 0x0000000C ∷ 0x11111111 ∷ 0x22222222 ∷ []) 8
+    ∷ words (0x8002EF10 ∷ 0x0000000C ∷ 0x11111111 ∷ 0x22222222 ∷ []) 8
     -- a read whose answer just fits, and one that is one too long; two reads that are one too long together
     ∷ words (0x816F0020 ∷ 0x00000000 ∷ []) 0
     ∷ words (0x81700020 ∷ 0x00000000 ∷ []) 10
@@ -75,7 +96,9 @@ requests =
     ∷ words (0xF0000030 ∷ []) 5
     ∷ words (0xF0000F10 ∷ []) 6
     ∷ words (0x8000FF10 ∷ []) 7
-    ∷ words (0x80011F10 ∷ []) 8
+    ∷ words (0x80011F10 ∷ []) 3
+    ∷ words (0x80011F50 ∷ 0x00000004 ∷ []) 3
+    ∷ words (0x80011F10 ∷ 0x00000004 ∷ []) 8
     ∷ []
 
 abbrev pub right : Example → Bool

@@ -8,9 +8,10 @@ use mathlib.Core.List.{List, [], _∷_, _++_}
 use lib.ListN.{length, getD}
 use Rattle.word.specs.Words.{wordsOf, Bytes}
 use Rattle.message.specs.Limits.{limit}
+use Rattle.message.specs.Header.{addressWords}
 use Rattle.message.specs.Walk.{refusal, faultOf}
 use Rattle.message.specs.Answer.{Answered, judge, encodeAnswer, FitsAnswer}
-use Rattle.message.specs.Request.{Command, Request, Reading, Wrong, Means, read, replies, lengthOk, commandWords, written, FitsCommand, All, FitsAsked, Fits}
+use Rattle.message.specs.Request.{Command, Request, Reading, Wrong, Means, addressFrom, read, replies, lengthOk, commandWords, written, FitsCommand, All, FitsAsked, Fits}
 
 -- commands that others follow: none of them is LAST
 unfoldable pub openWords : ℕ → List Command → List ℕ
@@ -20,7 +21,7 @@ openWords byte0 (c ∷ cs) = commandWords byte0 false c ++ openWords byte0 cs
 -- the first fault where a header should stand: "3 (no word there)", else the header's own
 unfoldable pub faultIn : ℕ → List ℕ → ℕ
 faultIn byte0 [] = 3
-faultIn byte0 (h ∷ rest) = faultOf byte0 h (length rest)
+faultIn byte0 (h ∷ rest) = faultOf byte0 h (length rest) (addressFrom (addressWords byte0) rest)
 
 -- good commands are followed by a header whose first fault, in the document's order, is n
 pub record FaultAfter (byte0 n : ℕ) (ws : List ℕ) : Type 0 where

@@ -1,10 +1,10 @@
 -- What a request means, read from any bytes and written to bytes. Assumes nothing.
-use Prim.Native.Nat.{ℕ, zero, suc, _+_, _*_, _/_, _%_, _<_, _≤_}
+use Prim.Native.Nat.{ℕ, zero, suc, _+_, _-_, _*_, _/_, _%_, _<_, _≤_}
 use mathlib.Core.Path.{_≡_}
 use mathlib.Core.Bool.{Bool, true, false, not, cond, _&&_}
 use mathlib.Core.List.{List, [], _∷_, _++_}
 use lib.ListN.{length, getD, take, drop}
-use lib.Dec.{leb, eqb}
+use lib.Dec.{ltb, leb, eqb}
 use Rattle.word.specs.Words.{wordsOf, bytesOf, Words}
 use Rattle.message.specs.declared.header.Head.{Head}
 use Rattle.message.specs.declared.refusal.Refusal.{Refusal}
@@ -73,7 +73,14 @@ turn (Read d) c go = cond (d .last) (Means (c ∷ [])) (before c (go (d .body)))
 unfoldable pub commandsFrom : ℕ → ℕ → List ℕ → Reading (List Command)
 commandsFrom byte0 skip [] = Wrong (refusal 3)
 commandsFrom byte0 (suc skip) (w ∷ ws) = commandsFrom byte0 skip ws
-commandsFrom byte0 zero (h ∷ rest) = turn (stepOn byte0 h (length rest)) (commandOf byte0 h rest) (λ n. commandsFrom byte0 n rest)
+commandsFrom byte0 zero (h ∷ rest) =
+    turn (stepOn byte0 h (length rest) (addressFrom (addressWords byte0) rest)) (commandOf byte0 h rest) (λ n. commandsFrom byte0 n rest)
+
+-- its step at word `at` of the words ws; "3 (no word there)"
+unfoldable pub stepAt : ℕ → List ℕ → ℕ → Step
+stepAt byte0 ws at =
+    cond (ltb at (length ws)) (stepOn byte0 (getD ws at 0) (length ws - at - 1) (addressFrom (addressWords byte0) (drop (at + 1) ws)))
+    (Refused (refusal 3))
 
 -- the words of "the answer with all commands OK"
 unfoldable pub replies : ℕ → List Command → ℕ
@@ -139,7 +146,7 @@ pub record FitsCommand (byte0 : ℕ) (c : Command) : Type 0 where
   pub byte : c .byte1 < 256
   pub twelve : c .count < 4096
   pub counted : countOk (kindOf byte0) (c .count) ≡ true
-  pub enabled : enablesOk (kindOf byte0) (c .count) (c .byte1) ≡ true
+  pub enabled : enablesOk (kindOf byte0) (c .count) (c .address) (c .byte1) ≡ true
   pub reaches : c .address < addressTop (addressWords byte0)
   pub long : length (c .payload) ≡ dataWords (kindOf byte0) (c .count)
   pub words : Words (c .payload)

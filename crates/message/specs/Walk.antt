@@ -1,8 +1,7 @@
--- One step of the walk: "at each header 3 (no word there), 4 to 8, 3 (body past the end), 9". Assumes nothing.
-use Prim.Native.Nat.{ℕ, _+_, _-_}
-use mathlib.Core.Bool.{Bool, true, false, not, cond, _&&_}
-use mathlib.Core.List.{List}
-use lib.ListN.{length, getD}
+-- One step of the walk: "at each header 3 (no word there), 4 to 8, 3 (body past the end), 9", but "where a write's address words are
+-- missing, 3 comes before 8". Assumes nothing.
+use Prim.Native.Nat.{ℕ, _%_}
+use mathlib.Core.Bool.{Bool, true, false, not, cond, _&&_, _||_}
 use lib.Dec.{ltb, leb, eqb}
 use Rattle.message.specs.declared.header.Kind.{Kind}
 use Rattle.message.specs.declared.header.Kind.the-variants.{Nop, Write, Read as Reads, Response}
@@ -31,15 +30,33 @@ countOk Reads count = leb 1 count
 countOk Response count = false
 
 -- "with count 1 the last field is 0 and the first is anything; with count 2 or more both are nonzero"
-unfoldable pub patternOk : ℕ → ℕ → ℕ → Bool
-patternOk count first final = cond (ltb count 2) (eqb final 0) (not (eqb first 0) && not (eqb final 0))
+abbrev pub zerosOk : ℕ → ℕ → ℕ → Bool
+zerosOk count first final = cond (eqb count 1) (eqb final 0) (not (eqb first 0) && not (eqb final 0))
+
+-- "Gaps inside the enables are allowed only for count 1, and for count 2 at an address that is a multiple of 8"
+abbrev pub gapsOk : ℕ → ℕ → Bool
+gapsOk count address = eqb count 1 || eqb count 2 && eqb (address % 8) 0
+
+-- "Every other write must have a first field of F, E, C or 8 and a last field of F, 7, 3 or 1"
+abbrev pub firstOk : ℕ → Bool
+firstOk first = eqb first 0xF || eqb first 0xE || eqb first 0xC || eqb first 0x8
+
+abbrev pub finalOk : ℕ → Bool
+finalOk final = eqb final 0xF || eqb final 0x7 || eqb final 0x3 || eqb final 0x1
+
+abbrev pub gapless : ℕ → ℕ → Bool
+gapless first final = firstOk first && finalOk final
+
+-- the enables that a write of this count at this address may have: both rules hold
+unfoldable pub patternOk : ℕ → ℕ → ℕ → ℕ → Bool
+patternOk count address first final = zerosOk count first final && (gapsOk count address || gapless first final)
 
 -- "Byte enables, writes only"; "Byte 1 of reads and NOPs is not looked at"
-abbrev pub enablesOk : Kind → ℕ → ℕ → Bool
-enablesOk Nop count byte1 = true
-enablesOk Write count byte1 = patternOk count (firstOf byte1) (finalOf byte1)
-enablesOk Reads count byte1 = true
-enablesOk Response count byte1 = true
+abbrev pub enablesOk : Kind → ℕ → ℕ → ℕ → Bool
+enablesOk Nop count address byte1 = true
+enablesOk Write count address byte1 = patternOk count address (firstOf byte1) (finalOf byte1)
+enablesOk Reads count address byte1 = true
+enablesOk Response count address byte1 = true
 
 -- "LAST stands on the final header only": nothing follows the body of a LAST command
 abbrev pub endsOk : Bool → ℕ → ℕ → Bool
@@ -49,25 +66,23 @@ endsOk last body left = cond last (eqb left body) true
 abbrev pub unless : Bool → ℕ → ℕ → ℕ
 unless ok n next = cond ok next n
 
--- the first fault, in the document's order, of a header h with `left` words after it in a message of this byte 0; 0 where it has none
-unfoldable pub faultOf : ℕ → ℕ → ℕ → ℕ
-faultOf byte0 h left =
+-- the first fault, in the document's order, of a header h with `left` words after it and this address, in a message of this byte 0;
+-- 0 where it has none
+unfoldable pub faultOf : ℕ → ℕ → ℕ → ℕ → ℕ
+faultOf byte0 h left address =
     unless (eqb (byte0Of h) byte0) 4
     (unless (asks (kindOf byte0)) 5
     (unless (eqb (reservedOf h) 0) 6
     (unless (countOk (kindOf byte0) (countOf h)) 7
-    (unless (enablesOk (kindOf byte0) (countOf h) (byte1Of h)) 8
     (unless (leb (addressWords byte0) left) 3
+    (unless (enablesOk (kindOf byte0) (countOf h) address (byte1Of h)) 8
     (unless (leb (bodyWords byte0 (countOf h)) left) 3
     (unless (endsOk (lastOf h) (bodyWords byte0 (countOf h)) left) 9 0)))))))
 
 -- the header as it was read, or its refusal
-unfoldable pub stepOn : ℕ → ℕ → ℕ → Step
-stepOn byte0 h left = cond (eqb (faultOf byte0 h left) 0) (Read (headOf byte0 h)) (Refused (refusal (faultOf byte0 h left)))
-
--- the same at word `at` of the words ws; "3 (no word there)"
-unfoldable pub stepAt : ℕ → List ℕ → ℕ → Step
-stepAt byte0 ws at = cond (ltb at (length ws)) (stepOn byte0 (getD ws at 0) (length ws - at - 1)) (Refused (refusal 3))
+unfoldable pub stepOn : ℕ → ℕ → ℕ → ℕ → Step
+stepOn byte0 h left address =
+    cond (eqb (faultOf byte0 h left address) 0) (Read (headOf byte0 h)) (Refused (refusal (faultOf byte0 h left address)))
 
 -- the refusal of a step that refused; none is 0
 abbrev pub refusalOf : Step → Refusal

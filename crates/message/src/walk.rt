@@ -1,13 +1,13 @@
 // The walk of a request: one step at a header, and the whole of any datagram.
 ghost use mathlib.Core.Path.{_≡_};
-ghost use Prim.Native.Nat.{_≤_};
+ghost use Prim.Native.Nat.{ℕ, _≤_};
 ghost use mathlib.Core.Bool.{true};
 ghost use lib.ListN.{length};
 ghost use Rattle.word.specs.Words.{wordsOf};
 ghost use Rattle.message.specs.declared.header.Kind.the-variants.{Write};
-ghost use Rattle.message.specs.Walk.{faultOf, stepOn, stepAt, refusalOf};
+ghost use Rattle.message.specs.Walk.{faultOf, refusalOf};
 ghost use Rattle.message.specs.Limits.{limitBytes};
-ghost use Rattle.message.specs.Request.{commandsFrom, lengthOk, endOf, finish, walkOf};
+ghost use Rattle.message.specs.Request.{commandsFrom, stepAt, lengthOk, endOf, finish, walkOf};
 ghost use Rattle.message.specs.Header.{kindOf, countOf};
 use crate::faults;
 use crate::header;
@@ -34,10 +34,10 @@ fn writes(byte0: u32) -> bool
     }
 }
 
-// Whether this is a write of one word without fault, the most common command; of the rest nothing is said. Its last enables are 0,
-// its count is 1 and its reserved bits are 0 exactly if bits 30:12 are 16.
+// Whether this is a write of one word without fault, the most common command, whatever its address; of the rest nothing is said. Its
+// last enables are 0, its count is 1 and its reserved bits are 0 exactly if bits 30:12 are 16.
 fn short_write(byte0: u32, h: u32, left: usize) -> bool
-    ensures { λ r. ⌜ (r ≡ true → (kindOf byte0 ≡ Write) × (countOf h ≡ 1) × (faultOf byte0 h left ≡ 0)) ⌝ }
+    ensures { λ r. ⌜ (r ≡ true → (kindOf byte0 ≡ Write) × (countOf h ≡ 1) × ((address : ℕ) → faultOf byte0 h left address ≡ 0)) ⌝ }
 {
     if !writes(byte0) {
         return false;
@@ -55,27 +55,8 @@ fn short_write(byte0: u32, h: u32, left: usize) -> bool
     faults::ends_ok(header::last(h), body, left)
 }
 
-// A header h with `left` words after it. The body of a short write has a size of its own here, so that the processor knows where the
+// The header at word `at` of a datagram. The body of a short write has a size of its own here, so that the processor knows where the
 // next header stands before it has this one.
-pub fn step_on(byte0: u32, h: u32, left: usize) -> Step
-    ensures { λ r. ⌜ r ≡ stepOn byte0 h left ⌝ }
-{
-    if short_write(byte0, h, left) {
-        return Step::Read(Head {
-            byte1: header::byte1(h),
-            count: 1,
-            body: header::address_words(byte0) + 1,
-            last: header::last(h),
-        });
-    }
-    let number = faults::fault(byte0, h, left);
-    if number != 0 {
-        return Step::Refused(Refusal { number });
-    }
-    Step::Read(header::head_of(byte0, h))
-}
-
-// The header at word `at` of a datagram.
 pub fn step_at(byte0: u32, datagram: &[u8], at: usize) -> Step
     ensures { λ r. ⌜ r ≡ stepAt byte0 (wordsOf (now (datagram .entry))) at ⌝ }
 {
@@ -85,7 +66,21 @@ pub fn step_at(byte0: u32, datagram: &[u8], at: usize) -> Step
             number: Refusal::PAST_END,
         });
     }
-    step_on(byte0, word::word_at(datagram, at), n - at - 1)
+    let h = word::word_at(datagram, at);
+    let left = n - at - 1;
+    if short_write(byte0, h, left) {
+        return Step::Read(Head {
+            byte1: header::byte1(h),
+            count: 1,
+            body: header::address_words(byte0) + 1,
+            last: header::last(h),
+        });
+    }
+    let number = faults::fault(byte0, h, left, datagram, at);
+    if number != 0 {
+        return Step::Refused(Refusal { number });
+    }
+    Step::Read(header::head_of(byte0, h))
 }
 
 // What the walk of a whole datagram tells: the words of the all-OK answer, or the refusal.

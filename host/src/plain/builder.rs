@@ -113,7 +113,8 @@ impl Building {
             return Err(Refusal::ADDED_COUNT);
         }
         let fields = added.first <= 15 && added.last <= 15;
-        if self.kind == WRITE && !(fields && enables_allowed(count, added.first, added.last)) {
+        let allowed = fields && enables_allowed(count, added.address, added.first, added.last);
+        if self.kind == WRITE && !allowed {
             return Err(Refusal::ADDED_ENABLES);
         }
         if self.kind != NOP && !self.wide && added.address > u64::from(u32::MAX) {

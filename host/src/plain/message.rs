@@ -147,9 +147,11 @@ pub fn walk(datagram: &[u8]) -> Result<Walked<'_>, Refusal> {
     let first = Header(u32::from_le_bytes(words[0]));
     let fixed = 1 + first.address_words();
     let answer = match first.kind() {
-        Kind::Nop => walk_commands(words, first, nop_size),
-        Kind::Write => walk_commands(words, first, |header| write_size(header, fixed)),
-        Kind::Read => walk_commands(words, first, |header| read_size(header, fixed)),
+        Kind::Nop => walk_commands(words, first, |header, _| nop_size(header)),
+        Kind::Write => {
+            walk_commands(words, first, |header, at| write_size(header, fixed, words, at))
+        }
+        Kind::Read => walk_commands(words, first, |header, _| read_size(header, fixed)),
         Kind::Response => Err(Refusal::KIND),
     }?;
     if answer > WORDS {
@@ -164,12 +166,13 @@ struct Size {
     answer: usize,
 }
 
-/// The walk for one kind, whose `size` gives 7 and 8; returns the words of the all-OK answer.
+/// The walk for one kind, whose `size`, given a header and its place, gives 7, 8 and the 3
+/// between them; returns the words of the all-OK answer.
 #[inline(always)]
 fn walk_commands(
     words: &[WordBytes],
     first: Header,
-    size: impl Fn(Header) -> Result<Size, Refusal>,
+    size: impl Fn(Header, usize) -> Result<Size, Refusal>,
 ) -> Result<usize, Refusal> {
     let (mut at, mut answer) = (0, 0);
     loop {
@@ -180,7 +183,7 @@ fn walk_commands(
         if header.has_reserved() {
             return Err(Refusal::RESERVED);
         }
-        let size = size(header)?;
+        let size = size(header, at)?;
         at += size.request;
         if at > words.len() {
             return Err(Refusal::PAST_END);
@@ -210,23 +213,42 @@ fn read_size(header: Header, fixed: usize) -> Result<Size, Refusal> {
 
 /// A write of one word has an arm of its own: where the next header stands is then known
 /// before this one has been loaded, which lets the processor run ahead.
-fn write_size(header: Header, fixed: usize) -> Result<Size, Refusal> {
+#[inline(always)]
+fn write_size(
+    header: Header,
+    fixed: usize,
+    words: &[WordBytes],
+    at: usize,
+) -> Result<Size, Refusal> {
     match header.count() {
         0 => Err(Refusal::COUNT),
         1 if header.last_enables() == 0 => Ok(Size { request: fixed + 1, answer: 1 }),
-        count if enables_allowed(count, header.first_enables(), header.last_enables()) => {
+        count => {
+            check_enables(header, words.get(at + 1..at + fixed))?;
             Ok(Size { request: fixed + count, answer: 1 })
         }
-        _ => Err(Refusal::ENABLES),
     }
 }
 
-/// The rule for the byte enables of a write of at least one word.
-pub fn enables_allowed(count: usize, first: u32, last: u32) -> bool {
-    if count == 1 {
-        last == 0
+/// 8, and before it 3 where the address is not there. Its low word is enough: it tells a
+/// multiple of 8.
+fn check_enables(header: Header, address: Option<&[WordBytes]>) -> Result<(), Refusal> {
+    let low = u32::from_le_bytes(address.ok_or(Refusal::PAST_END)?[0]);
+    let (first, last) = (header.first_enables(), header.last_enables());
+    if enables_allowed(header.count(), low.into(), first, last) {
+        Ok(())
     } else {
-        first != 0 && last != 0
+        Err(Refusal::ENABLES)
+    }
+}
+
+/// The rule for the byte enables of a write of at least one word: gaps inside them are allowed
+/// for one word, and for two at a multiple of 8.
+pub fn enables_allowed(count: usize, address: u64, first: u32, last: u32) -> bool {
+    match count {
+        1 => last == 0,
+        2 if address.is_multiple_of(8) => first != 0 && last != 0,
+        _ => matches!(first, 0xF | 0xE | 0xC | 0x8) && matches!(last, 0xF | 0x7 | 0x3 | 0x1),
     }
 }
 

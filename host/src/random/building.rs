@@ -1,7 +1,7 @@
 //! Random building calls and building records.
 
 use super::controller::length_from;
-use super::Random;
+use super::{requests, Random};
 use crate::limits::{BYTES, WORDS};
 use crate::plain::{Addition, Building};
 
@@ -52,13 +52,9 @@ pub fn next(random: &mut Random, kind: u32) -> Call {
         return Call::Close;
     }
     let data = data_length(random, kind);
-    Call::Add {
-        address: address(random),
-        first: enables(random),
-        last: if data == 1 && !random.one_in(16) { 0 } else { enables(random) },
-        count: count(random),
-        data: random.words(data),
-    }
+    let address = address(random);
+    let (first, last) = enables(random, data, address);
+    Call::Add { address, first, last, count: count(random), data: random.words(data) }
 }
 
 fn data_length(random: &mut Random, kind: u32) -> usize {
@@ -82,7 +78,17 @@ fn count(random: &mut Random) -> usize {
     }
 }
 
-fn enables(random: &mut Random) -> u32 {
+/// Both fields, mostly allowed.
+fn enables(random: &mut Random, data: usize, address: u64) -> (u32, u32) {
+    let byte1 = requests::enables(random, data, address);
+    match random.below(8) {
+        0 => (field(random), byte1 >> 4),
+        1 => (byte1 & 0xF, field(random)),
+        _ => (byte1 & 0xF, byte1 >> 4),
+    }
+}
+
+fn field(random: &mut Random) -> u32 {
     match random.below(16) {
         0 => 0,
         1 => random.pick(&[16, 0x1F, u32::MAX]),
@@ -90,10 +96,13 @@ fn enables(random: &mut Random) -> u32 {
     }
 }
 
+/// Any address, or a multiple of 8 or of 4.
 fn address(random: &mut Random) -> u64 {
     match random.below(8) {
         0 => random.pick(&[u64::from(u32::MAX), 1 << 32, u64::MAX]),
         1 => random.long(),
+        2..=4 => u64::from(random.word()) & !7,
+        5 | 6 => u64::from(random.word()) & !3,
         _ => u64::from(random.word()),
     }
 }

@@ -90,14 +90,14 @@ fn count(random: &mut Random, wish: Wish, room: Room) -> Option<usize> {
 }
 
 fn add_command(random: &mut Random, wish: Wish, count: usize, words: &mut Vec<u32>) {
+    let address = address(random, wish, count);
     let byte1 = match wish.kind {
-        Kind::Write => enables(random, count),
+        Kind::Write => enables(random, count, address),
         _ if random.one_in(2) => random.word() & 0xFF,
         _ => 0,
     };
     words.push(Header::new(wish.byte0(), byte1, count).0);
     if wish.kind != Kind::Nop {
-        let address = address(random, wish, count);
         words.push(address as u32);
         words.extend(wish.wide.then_some((address >> 32) as u32));
     }
@@ -106,14 +106,17 @@ fn add_command(random: &mut Random, wish: Wish, count: usize, words: &mut Vec<u3
     }
 }
 
-/// Byte 1 of a write, allowed for its count.
-fn enables(random: &mut Random, count: usize) -> u32 {
+/// Byte 1 of a write, allowed for its count and its address.
+pub fn enables(random: &mut Random, count: usize, address: u64) -> u32 {
     let whole = random.one_in(2);
     match count {
         1 if whole => 0x0F,
         1 => random.word() & 0xF,
         _ if whole => 0xFF,
-        _ => random.between(1, 15) as u32 | (random.between(1, 15) as u32) << 4,
+        2 if address.is_multiple_of(8) => {
+            random.between(1, 15) as u32 | (random.between(1, 15) as u32) << 4
+        }
+        _ => random.pick(&[0xF, 0xE, 0xC, 0x8]) | random.pick(&[0xF, 0x7, 0x3, 0x1]) << 4,
     }
 }
 
@@ -140,7 +143,7 @@ pub fn address(random: &mut Random, wish: Wish, count: usize) -> u64 {
 /// A request that was well-formed, changed in one of many ways; some changes do no harm.
 pub fn damaged(random: &mut Random, request: &[u8]) -> Vec<u8> {
     let mut bytes = request.to_vec();
-    match random.below(12) {
+    match random.below(13) {
         0 => flip(random, &mut bytes, 1),
         1 => {
             let bits = random.between(2, 12);
@@ -162,6 +165,7 @@ pub fn damaged(random: &mut Random, request: &[u8]) -> Vec<u8> {
             let length = 4 * random.below(WORDS + 2);
             bytes = random.bytes(length);
         }
+        9 => change_address(random, &mut bytes),
         _ => change_field(random, &mut bytes),
     }
     bytes
@@ -180,11 +184,24 @@ fn lengthen(random: &mut Random, bytes: &mut Vec<u8>) {
     bytes.resize(length.max(bytes.len()), 0);
 }
 
+/// The place of one header, each alike often.
+fn some_place(random: &mut Random, bytes: &[u8]) -> Option<usize> {
+    let walked = walk(bytes).ok()?;
+    let places: Vec<usize> = commands(&walked).map(|command| command.place).collect();
+    Some(4 * random.pick(&places))
+}
+
+/// Moves one address to the word before or behind it, from or to a multiple of 8.
+fn change_address(random: &mut Random, bytes: &mut [u8]) {
+    let Some(place) = some_place(random, bytes) else { return };
+    if let Some(low) = bytes.get_mut(place + 4) {
+        *low ^= 4;
+    }
+}
+
 /// Changes one field of one header, each place and each field alike often.
 fn change_field(random: &mut Random, bytes: &mut [u8]) {
-    let Ok(walked) = walk(bytes) else { return };
-    let places: Vec<usize> = commands(&walked).map(|command| command.place).collect();
-    let place = 4 * random.pick(&places);
+    let Some(place) = some_place(random, bytes) else { return };
     let header = &mut bytes[place..place + 4];
     let word = u32::from_le_bytes([header[0], header[1], header[2], header[3]]);
     header.copy_from_slice(&changed(random, word).to_le_bytes());

@@ -99,6 +99,17 @@ fn a_high_address_word_counts() {
 }
 
 #[test]
+fn gaps_at_8_and_at_12() {
+    let gapped = |address| [0x8002_A510, address, 0x1122_3344, 0x5566_7788];
+    let mut bench = Bench::sheet();
+    assert_eq!(bench.give(&gapped(12)), Err(8));
+    assert_eq!(bench, Bench::sheet());
+    assert_eq!(bench.give(&gapped(8)), Ok(vec![0x8000_0030]));
+    assert_eq!(bench.memory, [0, 0, 0x0022_0044, 0x5500_7700, 0xF00D_FACE, 0, 0, 0]);
+    assert_eq!(bench.tags, TagRecord { fresh: false, tag: 0, words: 1 });
+}
+
+#[test]
 fn short_datagrams_counts_and_reserved_bits() {
     let mut bench = Bench::sheet();
     assert_eq!(bench.give_bytes(&[]), Err(2));

@@ -172,6 +172,23 @@ fn refusal_24() {
 }
 
 #[test]
+fn refusal_24_of_gaps() {
+    let add = |address, data: &[u32]| Bench::begin(1, false).add(write(address, 5, 10, data));
+    assert_eq!(add(8, &[1, 2]), 0);
+    assert_eq!(add(12, &[1, 2]), 24);
+    assert_eq!(add(9, &[1, 2]), 24);
+    assert_eq!(add(8, &[1, 2, 3]), 24);
+    assert_eq!(add((1 << 32) + 8, &[1, 2]), 25);
+    assert_eq!(add((1 << 32) + 12, &[1, 2]), 24, "24 before 25");
+    let wide = |address| Bench::begin(1, true).add(write(address, 5, 10, &[1, 2]));
+    assert_eq!((wide(u64::MAX - 7), wide(u64::MAX - 3)), (0, 24));
+    let mut bench = Bench::begin(1, false);
+    assert_eq!(bench.add(write(8, 5, 10, &[0x1122_3344, 0x5566_7788])), 0);
+    assert_eq!(bench.close(), 0);
+    assert_eq!(bench.words(), [0x8002_A513, 8, 0x1122_3344, 0x5566_7788]);
+}
+
+#[test]
 fn refusal_25() {
     let narrow = |kind, addition| Bench::begin(kind, false).add(addition);
     assert_eq!(narrow(1, write(u32::MAX.into(), 1, 0, &[1])), 0);
@@ -184,9 +201,9 @@ fn refusal_25() {
 #[test]
 fn refusal_26() {
     let data = [0; WORDS];
-    assert_eq!(Bench::begin(1, false).add(write(0, 1, 1, &data[..WORDS - 2])), 0);
-    assert_eq!(Bench::begin(1, false).add(write(0, 1, 1, &data[..WORDS - 1])), 26);
-    assert_eq!(Bench::begin(1, true).add(write(0, 1, 1, &data[..WORDS - 2])), 26);
+    assert_eq!(Bench::begin(1, false).add(write(0, 15, 15, &data[..WORDS - 2])), 0);
+    assert_eq!(Bench::begin(1, false).add(write(0, 15, 15, &data[..WORDS - 1])), 26);
+    assert_eq!(Bench::begin(1, true).add(write(0, 15, 15, &data[..WORDS - 2])), 26);
     let mut bench = Bench::begin(2, false);
     assert_eq!(bench.add(read(0, WORDS)), 26);
     assert_eq!(bench.add(read(0, WORDS - 2)), 0);

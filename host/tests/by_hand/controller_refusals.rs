@@ -116,12 +116,23 @@ fn refusal_8_enables() {
         let (first, last) = (byte1 & 0xF, byte1 >> 4);
         let one = refused(&[0x8001_0010 | byte1 << 8, 0, 0]);
         assert_eq!(one, (last != 0).then_some(8), "count 1, byte 1 {byte1:02X}");
-        let two = refused(&[0x8002_0010 | byte1 << 8, 0, 0, 0]);
-        assert_eq!(two, (first == 0 || last == 0).then_some(8), "count 2, byte 1 {byte1:02X}");
+        let two = |address| refused(&[0x8002_0010 | byte1 << 8, address, 0, 0]);
+        let gaps = (first == 0 || last == 0).then_some(8);
+        assert_eq!((two(0), two(8)), (gaps, gaps), "count 2, byte 1 {byte1:02X}");
+        let whole = [8, 12, 14, 15].contains(&first) && [1, 3, 7, 15].contains(&last);
+        let no_gaps = (!whole).then_some(8);
+        assert_eq!((two(4), two(12)), (no_gaps, no_gaps), "no multiple of 8, {byte1:02X}");
+        assert_eq!((two(9), two(10)), (no_gaps, no_gaps), "nor of 4, byte 1 {byte1:02X}");
+        let three = refused(&[0x8003_0010 | byte1 << 8, 8, 0, 0, 0]);
+        assert_eq!(three, no_gaps, "count 3, byte 1 {byte1:02X}");
+        let wide = |low| refused(&[0x8002_0050 | byte1 << 8, low, 1, 0, 0]);
+        assert_eq!((wide(8), wide(12)), (gaps, no_gaps), "past 2^32, byte 1 {byte1:02X}");
         assert_eq!(refused(&[0x8002_0020 | byte1 << 8, 0]), None, "reads: not looked at");
         assert_eq!(refused(&[0x8000_0000 | byte1 << 8]), None, "NOPs: not looked at");
     }
-    assert_eq!(refused(&[0x8001_1F10]), Some(8), "8 before 3");
+    assert_eq!(refused(&[0x8001_1F10]), Some(3), "3 (address) before 8");
+    assert_eq!(refused(&[0x8001_1F50, 0]), Some(3), "the second address word too");
+    assert_eq!(refused(&[0x8001_1F10, 0]), Some(8), "8 before 3 (data)");
 }
 
 #[test]

@@ -7,7 +7,7 @@ use crate::Pair;
 use charkhavo_host::limits::WORDS;
 use charkhavo_host::plain::message::Kind;
 use charkhavo_host::plain::{Addition, TagRecord};
-use charkhavo_host::random::requests::{address, request, Wish};
+use charkhavo_host::random::requests::{address, enables, request, Wish};
 use charkhavo_host::random::{bytes_of, Random};
 
 /// A datagram under way. `number` says which message of the list it is or answers; none for
@@ -106,10 +106,12 @@ impl World {
         let mut added = Vec::new();
         for own in data.chunks(12) {
             let count = random.pick(&[1, 1, 1, 2, 2, 3, 12]);
+            let address = address(random, aims, count);
+            let byte1 = enables(random, count, address);
             added.push(Addition {
-                address: address(random, aims, count),
-                first: random.between(1, 15) as u32,
-                last: if count == 1 { 0 } else { random.between(1, 15) as u32 },
+                address,
+                first: byte1 & 0xF,
+                last: byte1 >> 4,
                 count,
                 data: &own[..if kind == 0 { count.min(2) } else { count }],
             });

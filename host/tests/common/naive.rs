@@ -66,20 +66,25 @@ fn read_commands(byte0: u32, words: &[u32]) -> Result<Vec<Command>, u32> {
     if (kind == 0 && count > 2) || (kind != 0 && count == 0) {
         return Err(7);
     }
-    if kind == 1 && ((count == 1 && last != 0) || (count >= 2 && (first == 0 || last == 0))) {
-        return Err(8);
-    }
-    let address = if kind == 0 { 0 } else { 1 + bits(header, 6, 6) as usize };
-    let data = if kind == 2 { 0 } else { count };
-    if words.len() < 1 + address + data {
+    let place = 1 + if kind == 0 { 0 } else { 1 + bits(header, 6, 6) as usize };
+    if words.len() < place {
         return Err(3);
     }
-    let rest = &words[1 + address + data..];
+    let address =
+        words[1..place].iter().rev().fold(0, |high, word| (high << 32) + u64::from(*word));
+    if kind == 1 && !enables_allowed(count, address, first, last) {
+        return Err(8);
+    }
+    let data = if kind == 2 { 0 } else { count };
+    if words.len() < place + data {
+        return Err(3);
+    }
+    let rest = &words[place + data..];
     let command = Command {
         byte1: bits(header, 15, 8),
         count,
-        address: (0..address).map(|i| u64::from(words[1 + i]) << (32 * i)).sum(),
-        data: words[1 + address..1 + address + data].to_vec(),
+        address,
+        data: words[place..place + data].to_vec(),
     };
     if bits(header, 31, 31) == 1 {
         return if rest.is_empty() { Ok(vec![command]) } else { Err(9) };
@@ -87,6 +92,13 @@ fn read_commands(byte0: u32, words: &[u32]) -> Result<Vec<Command>, u32> {
     let mut commands = read_commands(byte0, rest)?;
     commands.insert(0, command);
     Ok(commands)
+}
+
+/// Byte enables of a write of some words.
+pub fn enables_allowed(count: usize, address: u64, first: u32, last: u32) -> bool {
+    let zeros = if count == 1 { last == 0 } else { first != 0 && last != 0 };
+    let gaps = count == 1 || (count == 2 && address.is_multiple_of(8));
+    zeros && (gaps || ([15, 14, 12, 8].contains(&first) && [15, 7, 3, 1].contains(&last)))
 }
 
 /// Carries a request out upon memory; gives the answer's words.

@@ -1,5 +1,6 @@
 //! Building once more: what sequences of calls give, found by following them.
 
+use super::naive::enables_allowed;
 use charkhavo_host::limits::WORDS;
 use charkhavo_host::plain::Building;
 
@@ -105,9 +106,8 @@ pub fn added(
     if !counted {
         return Err(23);
     }
-    let one = count == 1 && last == 0 && first <= 15;
-    let more = count >= 2 && (1..=15).contains(&first) && (1..=15).contains(&last);
-    if record.kind == 1 && !one && !more {
+    let fields = first <= 15 && last <= 15;
+    if record.kind == 1 && !(fields && enables_allowed(count, address, first, last)) {
         return Err(24);
     }
     if record.kind != 0 && !record.wide && address >= 1 << 32 {

@@ -95,7 +95,7 @@ module _ (room : ℕ) (b : Building) (asked : Asked) (payload : List ℕ) (pre :
   ok = adds room b asked (length payload) pre
 
   pub placed-header : {byte0 count : ℕ} {k : Kind} → byte0 ≡ byte0By b → k ≡ kindOf byte0 → count ≡ countBy k (asked .count) (length payload)
-      → (count < 4096) × (enablesFit (kindOf byte0) count (asked .first) (asked .last) ≡ true)
+      → (count < 4096) × (enablesFit (kindOf byte0) count asked ≡ true)
   placed-header e f g = rw (g, f, e) (ok .fits .twelve, ok .fits .enabled)
 
   pub placed-address : {byte0 n a : ℕ} {k : Kind} → byte0 ≡ byte0By b → k ≡ kindOf byte0 → n ≡ addressWords byte0 → a ≡ addressSent k (asked .address)

@@ -87,7 +87,7 @@ reached-some b e z = some-is b (both (startOk (b .kind) (b .tag)) (someOk b) (rw
 pub record Fitting (byte0 words answer : ℕ) (asked : Asked) (count : ℕ) : Type 0 where
   pub twelve : count < 4096
   pub counted : countOk (kindOf byte0) count ≡ true
-  pub enabled : enablesFit (kindOf byte0) count (asked .first) (asked .last) ≡ true
+  pub enabled : enablesFit (kindOf byte0) count asked ≡ true
   pub reaches : addressFits (kindOf byte0) (wideOf byte0) (asked .address) ≡ true
   pub short : words + sizeBy byte0 count ≤ limit
   pub few : answer + replyBy byte0 count ≤ limit
@@ -100,7 +100,7 @@ pub fitting : (byte0 words answer : ℕ) (asked : Asked) (count : ℕ) → comma
 unfolding commandFault roomFits
 fitting byte0 words answer asked count e =
     let t1 = passed (countFits (kindOf byte0) count) 23 _ (omega arith) e in
-    let t2 = passed (enablesFit (kindOf byte0) count (asked .first) (asked .last)) 24 _ (omega arith) (t1 .1) in
+    let t2 = passed (enablesFit (kindOf byte0) count asked) 24 _ (omega arith) (t1 .1) in
     let t3 = passed (addressFits (kindOf byte0) (wideOf byte0) (asked .address)) 25 _ (omega arith) (t2 .1) in
     let t4 = passed (roomFits byte0 words answer count) 26 0 (omega arith) (t3 .1) in
     let c = count-twelve (kindOf byte0) count (t1 .0) in
@@ -142,10 +142,11 @@ closes room b e =
     let z : b .words ≡ 0 → ⊥ = eqb-false _ _ (not-true _ (v .1)) in
     record { long = leb-true _ _ (u .0); reached = u .1; bounds = bounded b (u .1); opens = not-true _ (v .0); some = reached-some b (u .1) z }
 
--- a write's enables are two fields of four bits, in a pattern that its count may have
-pub fields-lt : (count first last : ℕ) → fieldsOk count first last ≡ true → (first < 16) × (last < 16) × (patternOk count first last ≡ true)
+-- a write's enables are two fields of four bits, in a pattern that its count may have at its address
+pub fields-lt : (count : ℕ) (asked : Asked) → fieldsOk count asked ≡ true
+    → (asked .first < 16) × (asked .last < 16) × (patternOk count (asked .address) (asked .first) (asked .last) ≡ true)
 unfolding fieldsOk
-fields-lt count first last e =
+fields-lt count asked e =
     let t = both _ _ e in
     let u = both _ _ (t .0) in
     (ltb-true _ _ (u .0), ltb-true _ _ (u .1), t .1)

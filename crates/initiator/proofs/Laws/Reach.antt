@@ -124,7 +124,7 @@ abbrev plain : ℕ → Asked
 plain count = record { address = 0; first = 15; last = wholeLast count; count = count }
 
 plain-last : (count : ℕ) → wholeLast count < 16
-plain-last count = go (ltb count 2)
+plain-last count = go (eqb count 1)
   where
     go : (t : Bool) → cond t 0 15 < 16
     go true = omega arith
@@ -144,10 +144,10 @@ allowed-ok Write count h = le-leb _ _ h
 allowed-ok Read count h = le-leb _ _ h
 allowed-ok Response count h = absurd h
 
-plain-enables : (k : Kind) (count : ℕ) → enablesFit k count 15 (wholeLast count) ≡ true
+plain-enables : (k : Kind) (count : ℕ) → enablesFit k count (plain count) ≡ true
 unfolding fieldsOk
 plain-enables Nop count = refl
-plain-enables Write count = rw (lt-ltb _ _ (plain-last count), some-pattern count)
+plain-enables Write count = rw (lt-ltb _ _ (plain-last count), some-pattern count 0)
 plain-enables Read count = refl
 plain-enables Response count = refl
 

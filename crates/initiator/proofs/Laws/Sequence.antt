@@ -48,15 +48,15 @@ took out b asked payload e = go (eqb (addFault (length out) b asked (length payl
     go false z e = absurd (passed.off-zero z (unrefused e))
 
 -- the command that was added fits
-byte1-fits : (k : Kind) (count first last : ℕ) → enablesFit k count first last ≡ true
-    → (byte1By k first last < 256) × (enablesOk k count (byte1By k first last) ≡ true)
-byte1-fits Nop count first last e = (omega arith, refl)
-byte1-fits Read count first last e = (omega arith, refl)
-byte1-fits Response count first last e = (omega arith, refl)
-byte1-fits Write count first last e =
-    let h = fields-lt count first last e in
-    let f : (first + 16 * last) % 16 ≡ first = omega arith in
-    let l : (first + 16 * last) / 16 ≡ last = omega arith in
+byte1-fits : (k : Kind) (count : ℕ) (asked : Asked) → enablesFit k count asked ≡ true
+    → (byte1By k (asked .first) (asked .last) < 256) × (enablesOk k count (addressSent k (asked .address)) (byte1By k (asked .first) (asked .last)) ≡ true)
+byte1-fits Nop count asked e = (omega arith, refl)
+byte1-fits Read count asked e = (omega arith, refl)
+byte1-fits Response count asked e = (omega arith, refl)
+byte1-fits Write count asked e =
+    let h = fields-lt count asked e in
+    let f : (asked .first + 16 * asked .last) % 16 ≡ asked .first = omega arith in
+    let l : (asked .first + 16 * asked .last) / 16 ≡ asked .last = omega arith in
     (omega arith, rw (f, l) (h .2))
 
 carried-long : (k : Kind) (count : ℕ) (payload : List ℕ) → length (carriedBy k payload) ≡ dataWords k (countBy k count (length payload))
@@ -81,7 +81,7 @@ command-fits : (byte0 w n : ℕ) (asked : Asked) (payload : List ℕ) → Lent a
     → Fitting byte0 w n asked (countBy (kindOf byte0) (asked .count) (length payload)) → FitsCommand byte0 (commandBy byte0 asked payload)
 unfolding commandBy
 command-fits byte0 w n asked payload l f =
-    let e = byte1-fits (kindOf byte0) _ (asked .first) (asked .last) (f .enabled) in
+    let e = byte1-fits (kindOf byte0) _ asked (f .enabled) in
     record {
       byte = e .0;
       twelve = f .twelve;

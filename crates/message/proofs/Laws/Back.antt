@@ -18,10 +18,10 @@ use Rattle.message.specs.declared.walk.Step.{Step}
 use Rattle.message.specs.declared.walk.Step.the-variants.{Read, Refused}
 use Rattle.message.specs.Limits.{limit, limitBytes}
 use Rattle.message.specs.Header.{kindOf, byte0Of, byte1Of, countOf, reservedOf, lastOf, headerFrom, addressWords, dataWords, bodyWords, headOf}
-use Rattle.message.specs.Walk.{refusal, asks, endsOk, faultOf, stepOn}
+use Rattle.message.specs.Walk.{refusal, asks, endsOk, stepOn}
 use Rattle.message.specs.Request.{Command, Request, Reading, Wrong, Means, addressFrom, addressIn, addressTop, commandOf, before, turn, commandsFrom, replies, ended, lengthOk, read, commandWords, none, requestWords, written, FitsCommand, All, FitsAsked, Fits}
 use Rattle.message.proofs.Laws.Headers.{header-is, address-le}
-use Rattle.message.proofs.Laws.Faults.{Sound, sound, no-mean, past, before-is}
+use Rattle.message.proofs.Laws.Faults.{SoundBefore, sound, faultBefore, no-mean, past, before-is}
 
 -- an address's words are rebuilt from it
 address-is : (n : ℕ) (ws : List ℕ) → n ≤ 2 → n ≤ length ws → Words ws → addressIn n (addressFrom n ws) ++ drop n ws ≡ ws
@@ -47,7 +47,7 @@ address-top (suc (suc n)) [] l e = omega arith
 address-top (suc (suc n)) (w ∷ []) l e = absurd (omega arith)
 
 -- the command of a header that stands with its body
-module _ (byte0 h : ℕ) (rest : List ℕ) (s : Sound byte0 h (length rest)) (hw : h < 4294967296) (each : Words rest) where
+module _ (byte0 h : ℕ) (rest : List ℕ) (s : SoundBefore byte0 h rest) (hw : h < 4294967296) (each : Words rest) where
   pub one-fits : FitsCommand byte0 (commandOf byte0 h rest)
   unfolding commandOf
   one-fits =
@@ -79,7 +79,7 @@ pub record Backed (byte0 : ℕ) (ws : List ℕ) (cs : List Command) : Type 0 whe
 ends-empty : (n : ℕ) (rest : List ℕ) → endsOk true n (length rest) ≡ true → drop n rest ≡ []
 ends-empty n rest e = let q = eqb-true (length rest) n e in drop-of-length-le rest {i = n} (omega arith)
 
-module _ (byte0 h : ℕ) (rest : List ℕ) (s : Sound byte0 h (length rest)) (hw : h < 4294967296) (each : Words rest) where
+module _ (byte0 h : ℕ) (rest : List ℕ) (s : SoundBefore byte0 h rest) (hw : h < 4294967296) (each : Words rest) where
   -- a LAST command
   last-backed : lastOf h ≡ true → Backed byte0 (h ∷ rest) (commandOf byte0 h rest ∷ [])
   unfolding requestWords All
@@ -108,9 +108,9 @@ unfolding commandsFrom Below headOf stepOn
 commands-backed byte0 zero [] cs e m = no-mean m
 commands-backed byte0 (suc n) [] cs e m = no-mean m
 commands-backed byte0 (suc n) (w ∷ ws) cs e m = commands-backed byte0 n ws cs (e .1) m
-commands-backed byte0 zero (h ∷ rest) cs e m = go (λ n ds x. commands-backed byte0 n rest ds (e .1) x) (eqb (faultOf byte0 h (length rest)) 0) refl m
+commands-backed byte0 zero (h ∷ rest) cs e m = go (λ n ds x. commands-backed byte0 n rest ds (e .1) x) (eqb (faultBefore byte0 h rest) 0) refl m
   where
-    by : Sound byte0 h (length rest) → ((n : ℕ) (ds : List Command) → commandsFrom byte0 n rest ≡ Means ds → Backed byte0 (drop n rest) ds)
+    by : SoundBefore byte0 h rest → ((n : ℕ) (ds : List Command) → commandsFrom byte0 n rest ≡ Means ds → Backed byte0 (drop n rest) ds)
         → (b : Bool) → lastOf h ≡ b
         → cond b (Means (commandOf byte0 h rest ∷ [])) (before (commandOf byte0 h rest) (commandsFrom byte0 (bodyWords byte0 (countOf h)) rest)) ≡ Means cs
         → Backed byte0 (h ∷ rest) cs
@@ -120,11 +120,11 @@ commands-backed byte0 zero (h ∷ rest) cs e m = go (λ n ds x. commands-backed 
         rw (t .2) (more-backed byte0 h rest s (e .0) (e .1) l (t .0) (ih (bodyWords byte0 (countOf h)) (t .0) (t .1)))
 
     go : ((n : ℕ) (ds : List Command) → commandsFrom byte0 n rest ≡ Means ds → Backed byte0 (drop n rest) ds)
-        → (b : Bool) → eqb (faultOf byte0 h (length rest)) 0 ≡ b
-        → turn (cond b (Read (headOf byte0 h)) (Refused (refusal (faultOf byte0 h (length rest))))) (commandOf byte0 h rest) (λ n. commandsFrom byte0 n rest) ≡ Means cs
+        → (b : Bool) → eqb (faultBefore byte0 h rest) 0 ≡ b
+        → turn (cond b (Read (headOf byte0 h)) (Refused (refusal (faultBefore byte0 h rest)))) (commandOf byte0 h rest) (λ n. commandsFrom byte0 n rest) ≡ Means cs
         → Backed byte0 (h ∷ rest) cs
     go ih false z x = no-mean x
-    go ih true z x = by (sound byte0 h (length rest) (eqb-true _ _ z)) ih (lastOf h) refl x
+    go ih true z x = by (sound byte0 h (length rest) _ (eqb-true _ _ z)) ih (lastOf h) refl x
 
 -- what was read, by its parts
 pub ended-is : (byte0 : ℕ) (p : Reading (List Command)) (r : Request) → ended byte0 p ≡ Means r

@@ -20,7 +20,7 @@ use Rattle.message.specs.Header.{kindOf, byte0Of, byte1Of, countOf, rese
 use Rattle.message.specs.Walk.{refusal, asks, countOk, enablesOk, endsOk, unless, faultOf, stepOn}
 use Rattle.message.specs.Request.{Command, Request, Reading, Wrong, Means, commandOf, before, turn, commandsFrom, replies, ended, lengthOk, read, commandWords, requestWords, written, FitsCommand, All, FitsAsked, Fits}
 use Rattle.message.specs.Refusals.{openWords, faultIn, FaultAfter, TooLong, Exactly}
-use Rattle.message.proofs.Laws.Faults.{Sound, sound, step-refused, no-mean, same-number, before-wrong}
+use Rattle.message.proofs.Laws.Faults.{SoundBefore, sound, faultBefore, step-refused, no-mean, same-number, before-wrong}
 use Rattle.message.proofs.Laws.Round.{one-back, read-asked, read-written}
 use Rattle.message.proofs.Laws.Back.{one-fits, one-is, Backed, commands-backed, Right, right, written-read}
 
@@ -32,15 +32,15 @@ unless-walks : (ok : Bool) (n x : ℕ) → 3 ≤ n → n ≤ 9 → Walks x → W
 unless-walks true n x h k w = w
 unless-walks false n x h k w = λ z. (h, k)
 
-fault-walks : (byte0 h left : ℕ) → Walks (faultOf byte0 h left)
+fault-walks : (byte0 h left address : ℕ) → Walks (faultOf byte0 h left address)
 unfolding faultOf
-fault-walks byte0 h left =
+fault-walks byte0 h left address =
     unless-walks (eqb (byte0Of h) byte0) 4 _ (omega arith) (omega arith)
     (unless-walks (asks (kindOf byte0)) 5 _ (omega arith) (omega arith)
     (unless-walks (eqb (reservedOf h) 0) 6 _ (omega arith) (omega arith)
     (unless-walks (countOk (kindOf byte0) (countOf h)) 7 _ (omega arith) (omega arith)
-    (unless-walks (enablesOk (kindOf byte0) (countOf h) (byte1Of h)) 8 _ (omega arith) (omega arith)
     (unless-walks (leb (addressWords byte0) left) 3 _ (omega arith) (omega arith)
+    (unless-walks (enablesOk (kindOf byte0) (countOf h) address (byte1Of h)) 8 _ (omega arith) (omega arith)
     (unless-walks (leb (bodyWords byte0 (countOf h)) left) 3 _ (omega arith) (omega arith)
     (unless-walks (endsOk (lastOf h) (bodyWords byte0 (countOf h)) left) 9 0 (omega arith) (omega arith) (λ z. absurd (z refl)))))))))
 
@@ -61,14 +61,14 @@ after-walk byte0 zero [] r e m =
 after-walk byte0 (suc n) [] r e m =
     rw (← number-is m) (record { low = omega arith; high = omega arith; after = record { good = []; fit = tt; tail = []; is = refl; fault = refl } })
 after-walk byte0 (suc n) (w ∷ ws) r e m = after-walk byte0 n ws r (e .1) m
-after-walk byte0 zero (h ∷ rest) r e m = go (λ n x. after-walk byte0 n rest r (e .1) x) (eqb (faultOf byte0 h (length rest)) 0) refl m
+after-walk byte0 zero (h ∷ rest) r e m = go (λ n x. after-walk byte0 n rest r (e .1) x) (eqb (faultBefore byte0 h rest) 0) refl m
   where
-    here : (eqb (faultOf byte0 h (length rest)) 0 ≡ false) → refusal (faultOf byte0 h (length rest)) ≡ r → Fault byte0 r (h ∷ rest)
+    here : (eqb (faultBefore byte0 h rest) 0 ≡ false) → refusal (faultBefore byte0 h rest) ≡ r → Fault byte0 r (h ∷ rest)
     here z q =
-        let w = fault-walks byte0 h (length rest) (eqb-false _ _ z) in
+        let w = fault-walks byte0 h (length rest) _ (eqb-false _ _ z) in
         rw (← q) (record { low = w .0; high = w .1; after = record { good = []; fit = tt; tail = h ∷ rest; is = refl; fault = refl } })
 
-    behind : Sound byte0 h (length rest) → lastOf h ≡ false → Fault byte0 r (drop (bodyWords byte0 (countOf h)) rest) → Fault byte0 r (h ∷ rest)
+    behind : SoundBefore byte0 h rest → lastOf h ≡ false → Fault byte0 r (drop (bodyWords byte0 (countOf h)) rest) → Fault byte0 r (h ∷ rest)
     behind s l f =
         let a = f .after in
         let c = commandOf byte0 h rest in
@@ -76,7 +76,7 @@ after-walk byte0 zero (h ∷ rest) r e m = go (λ n x. after-walk byte0 n rest r
         sym (one-is byte0 h rest s (e .0) (e .1)) ∙ rw (l, a .is) (sym (append-assoc (commandWords byte0 false c) (openWords byte0 (a .good)) (a .tail))) in
         record { low = f .low; high = f .high; after = record { good = c ∷ a .good; fit = (one-fits byte0 h rest s (e .0) (e .1), a .fit); tail = a .tail; is = is; fault = a .fault } }
 
-    by : Sound byte0 h (length rest) → ((n : ℕ) → commandsFrom byte0 n rest ≡ Wrong r → Fault byte0 r (drop n rest))
+    by : SoundBefore byte0 h rest → ((n : ℕ) → commandsFrom byte0 n rest ≡ Wrong r → Fault byte0 r (drop n rest))
         → (b : Bool) → lastOf h ≡ b
         → cond b (Means (commandOf byte0 h rest ∷ [])) (before (commandOf byte0 h rest) (commandsFrom byte0 (bodyWords byte0 (countOf h)) rest)) ≡ Wrong r
         → Fault byte0 r (h ∷ rest)
@@ -84,11 +84,11 @@ after-walk byte0 zero (h ∷ rest) r e m = go (λ n x. after-walk byte0 n rest r
     by s ih false l x = behind s l (ih (bodyWords byte0 (countOf h)) (before-wrong (commandOf byte0 h rest) _ x))
 
     go : ((n : ℕ) → commandsFrom byte0 n rest ≡ Wrong r → Fault byte0 r (drop n rest))
-        → (b : Bool) → eqb (faultOf byte0 h (length rest)) 0 ≡ b
-        → turn (cond b (Read (headOf byte0 h)) (Refused (refusal (faultOf byte0 h (length rest))))) (commandOf byte0 h rest) (λ n. commandsFrom byte0 n rest) ≡ Wrong r
+        → (b : Bool) → eqb (faultBefore byte0 h rest) 0 ≡ b
+        → turn (cond b (Read (headOf byte0 h)) (Refused (refusal (faultBefore byte0 h rest)))) (commandOf byte0 h rest) (λ n. commandsFrom byte0 n rest) ≡ Wrong r
         → Fault byte0 r (h ∷ rest)
     go ih false z x = here z (number-is x)
-    go ih true z x = by (sound byte0 h (length rest) (eqb-true _ _ z)) ih (lastOf h) refl x
+    go ih true z x = by (sound byte0 h (length rest) _ (eqb-true _ _ z)) ih (lastOf h) refl x
 
 -- a command that may stand in a message is no response
 pub counted-asks : (k : Kind) (n : ℕ) → countOk k n ≡ true → asks k ≡ true
@@ -102,7 +102,7 @@ walk-after : (byte0 n : ℕ) → byte0 < 256 → (n ≡ 0 → ⊥) → (good : L
     → commandsFrom byte0 0 (openWords byte0 good ++ tail) ≡ Wrong (refusal n)
 unfolding openWords faultIn All commandsFrom
 walk-after byte0 n hb z [] [] f e = rw e
-walk-after byte0 n hb z [] (h ∷ rest) f e = rw (step-refused byte0 h (length rest) (λ q. z (sym e ∙ q)), e)
+walk-after byte0 n hb z [] (h ∷ rest) f e = rw (step-refused byte0 h (length rest) _ (λ q. z (sym e ∙ q)), e)
 walk-after byte0 n hb z (c ∷ cs) tail f e =
     rw append-assoc
     (one-back byte0 hb (counted-asks (kindOf byte0) (c .count) (f .0 .counted)) false c (f .0) (openWords byte0 cs ++ tail) (λ q. absurd (false≢true q))

@@ -1,21 +1,22 @@
 -- A header's faults and a reading's checks, passed one by one. The laws of requests and answers cite these. Assumes nothing.
 use Prim.Native.Nat.{ℕ, zero, suc, _+_, _-_, _*_, _/_, _%_, _<_, _≤_}
 use mathlib.Core.Path.{_≡_, refl, sym, ap, _∙_}
-use mathlib.Core.Bool.{Bool, true, false, not, cond, false≢true}
+use mathlib.Core.Bool.{Bool, true, false, not, cond, _&&_, or-true, and-eq-true-iff, false≢true}
 use mathlib.Core.List.{List, [], _∷_, _++_}
-use native.Mathlib.Nat.{div-div-eq-div-mul, mul-mod-right}
+use native.Mathlib.Nat.{add-zero, div-div-eq-div-mul, mul-mod-right}
 use native.Mathlib.Omega.{arith}
 use borrow.Author.Tests.{eqb-true, eqb-false, leb-true, eq-eqb, ne-eqb, le-leb}
 use lib.Dec.{ltb, leb, eqb}
 use lib.ListN.{length, getD, drop}
+use lib.Seq.{getD-drop}
 use Rattle.message.specs.declared.header.Head.{Head}
 use Rattle.message.specs.declared.refusal.Refusal.{Refusal}
 use Rattle.message.specs.declared.walk.Step.{Step}
 use Rattle.message.specs.declared.walk.Step.the-variants.{Read, Refused}
 use Rattle.message.specs.declared.header.Kind.the-variants.{Write}
-use Rattle.message.specs.Header.{kindOf, byte0Of, byte1Of, countOf, reservedOf, lastOf, addressWords, dataWords, bodyWords, headOf}
-use Rattle.message.specs.Walk.{refusal, asks, countOk, patternOk, enablesOk, endsOk, unless, faultOf, stepOn, stepAt}
-use Rattle.message.specs.Request.{Reading, Wrong, Means, before, commandsFrom}
+use Rattle.message.specs.Header.{kindOf, wideOf, byte0Of, byte1Of, firstOf, finalOf, countOf, reservedOf, lastOf, bit, addressWords, dataWords, bodyWords, headOf}
+use Rattle.message.specs.Walk.{refusal, asks, countOk, gapsOk, firstOk, finalOk, gapless, patternOk, enablesOk, endsOk, unless, faultOf, stepOn}
+use Rattle.message.specs.Request.{Reading, Wrong, Means, addressFrom, before, commandsFrom}
 
 -- a check that found no fault
 pub passed : (ok : Bool) (n x : ℕ) → 0 < n → unless ok n x ≡ 0 → (ok ≡ true) × (x ≡ 0)
@@ -23,25 +24,25 @@ passed true n x h e = (refl, e)
 passed false n x h e = absurd (omega arith)
 
 -- what stands in a header without fault
-pub record Sound (byte0 h left : ℕ) : Type 0 where
+pub record Sound (byte0 h left address : ℕ) : Type 0 where
   pub same : byte0Of h ≡ byte0
   pub asking : asks (kindOf byte0) ≡ true
   pub clear : reservedOf h ≡ 0
   pub counted : countOk (kindOf byte0) (countOf h) ≡ true
-  pub enabled : enablesOk (kindOf byte0) (countOf h) (byte1Of h) ≡ true
+  pub enabled : enablesOk (kindOf byte0) (countOf h) address (byte1Of h) ≡ true
   pub within : bodyWords byte0 (countOf h) ≤ left
   pub ends : endsOk (lastOf h) (bodyWords byte0 (countOf h)) left ≡ true
 
-pub sound : (byte0 h left : ℕ) → faultOf byte0 h left ≡ 0 → Sound byte0 h left
+pub sound : (byte0 h left address : ℕ) → faultOf byte0 h left address ≡ 0 → Sound byte0 h left address
 unfolding faultOf
-sound byte0 h left e =
+sound byte0 h left address e =
     let p4 = passed (eqb (byte0Of h) byte0) 4 _ (omega arith) e in
     let p5 = passed (asks (kindOf byte0)) 5 _ (omega arith) (p4 .1) in
     let p6 = passed (eqb (reservedOf h) 0) 6 _ (omega arith) (p5 .1) in
     let p7 = passed (countOk (kindOf byte0) (countOf h)) 7 _ (omega arith) (p6 .1) in
-    let p8 = passed (enablesOk (kindOf byte0) (countOf h) (byte1Of h)) 8 _ (omega arith) (p7 .1) in
-    let p3 = passed (leb (addressWords byte0) left) 3 _ (omega arith) (p8 .1) in
-    let q3 = passed (leb (bodyWords byte0 (countOf h)) left) 3 _ (omega arith) (p3 .1) in
+    let p3 = passed (leb (addressWords byte0) left) 3 _ (omega arith) (p7 .1) in
+    let p8 = passed (enablesOk (kindOf byte0) (countOf h) address (byte1Of h)) 8 _ (omega arith) (p3 .1) in
+    let q3 = passed (leb (bodyWords byte0 (countOf h)) left) 3 _ (omega arith) (p8 .1) in
     let p9 = passed (endsOk (lastOf h) (bodyWords byte0 (countOf h)) left) 9 0 (omega arith) (q3 .1) in
     record {
       same = eqb-true _ _ (p4 .0);
@@ -53,23 +54,24 @@ sound byte0 h left e =
       ends = p9 .0;
     }
 
-pub faultless : (byte0 h left : ℕ) → Sound byte0 h left → faultOf byte0 h left ≡ 0
+pub faultless : (byte0 h left address : ℕ) → Sound byte0 h left address → faultOf byte0 h left address ≡ 0
 unfolding faultOf
-faultless byte0 h left s =
+faultless byte0 h left address s =
     rw (
       eq-eqb _ _ (s .same),
       s .asking,
       eq-eqb _ _ (s .clear),
       s .counted,
-      s .enabled,
       le-leb (addressWords byte0) left (omega (arith, s .within)),
+      s .enabled,
       le-leb _ _ (s .within),
       s .ends,
     )
 
--- a write of one word, the header's bits 30:12 being 16: no fault if its body is there and nothing follows it where it is LAST
+-- a write of one word, the header's bits 30:12 being 16: no fault, whatever its address, if its body is there and nothing follows it
+-- where it is LAST
 pub short-faultless : (byte0 h left : ℕ) → kindOf byte0 ≡ Write → byte0Of h ≡ byte0 → h / 4096 % 524288 ≡ 16
-    → addressWords byte0 + 1 ≤ left → endsOk (lastOf h) (addressWords byte0 + 1) left ≡ true → (countOf h ≡ 1) × (faultOf byte0 h left ≡ 0)
+    → addressWords byte0 + 1 ≤ left → endsOk (lastOf h) (addressWords byte0 + 1) left ≡ true → (countOf h ≡ 1) × ((address : ℕ) → faultOf byte0 h left address ≡ 0)
 unfolding patternOk
 short-faultless byte0 h left kind same bits fits ends =
     let one : countOf h ≡ 1 = omega (arith, bits) in
@@ -77,7 +79,7 @@ short-faultless byte0 h left kind same bits fits ends =
     let high : h / 268435456 ≡ 8 * (h / 4096 / 524288) = sym (div-div-eq-div-mul h 4096 65536) ∙ omega (arith, bits) in
     let body : bodyWords byte0 (countOf h) ≡ addressWords byte0 + 1 = rw (kind, one) in (
       one,
-      faultless byte0 h left
+      λ address. faultless byte0 h left address
           (record {
             same = same;
             asking = rw kind;
@@ -90,13 +92,57 @@ short-faultless byte0 h left kind same bits fits ends =
     )
 
 -- a step by its header's fault
-pub step-read : (byte0 h left : ℕ) → faultOf byte0 h left ≡ 0 → stepOn byte0 h left ≡ Read (headOf byte0 h)
+pub step-read : (byte0 h left address : ℕ) → faultOf byte0 h left address ≡ 0 → stepOn byte0 h left address ≡ Read (headOf byte0 h)
 unfolding stepOn
-step-read byte0 h left e = rw (eq-eqb _ _ e)
+step-read byte0 h left address e = rw (eq-eqb _ _ e)
 
-pub step-refused : (byte0 h left : ℕ) → (faultOf byte0 h left ≡ 0 → ⊥) → stepOn byte0 h left ≡ Refused (refusal (faultOf byte0 h left))
+pub step-refused : (byte0 h left address : ℕ) → (faultOf byte0 h left address ≡ 0 → ⊥)
+    → stepOn byte0 h left address ≡ Refused (refusal (faultOf byte0 h left address))
 unfolding stepOn
-step-refused byte0 h left e = rw (ne-eqb _ _ e)
+step-refused byte0 h left address e = rw (ne-eqb _ _ e)
+
+-- a header's fault, and that it has none, by the words that follow it
+abbrev pub faultBefore : ℕ → ℕ → List ℕ → ℕ
+faultBefore byte0 h rest = faultOf byte0 h (length rest) (addressFrom (addressWords byte0) rest)
+
+abbrev pub SoundBefore : ℕ → ℕ → List ℕ → Type 0
+SoundBefore byte0 h rest = Sound byte0 h (length rest) (addressFrom (addressWords byte0) rest)
+
+-- a first field of E or F
+pub first-high : (n : ℕ) → 14 ≤ n → n < 16 → firstOk n ≡ true
+first-high n h k = go (eqb n 15) refl
+  where
+    go : (b : Bool) → eqb n 15 ≡ b → firstOk n ≡ true
+    go true z = rw (eqb-true n 15 z)
+    go false z = let d = eqb-false n 15 z in let e : n ≡ 14 = omega arith in rw e
+
+-- fields without a gap are nonzero: for every count but 1 they are allowed, at every address
+passes-some : (ok : ℕ → Bool) → ok 0 ≡ false → (n : ℕ) → ok n ≡ true → eqb n 0 ≡ false
+passes-some ok z n e = ne-eqb n 0 (λ q. false≢true (sym z ∙ ap ok (sym q) ∙ e))
+
+pub gapless-pattern : (count address first final : ℕ) → gapless first final ≡ true → not (eqb count 1) ≡ patternOk count address first final
+unfolding patternOk
+gapless-pattern count address first final e =
+    let f = and-eq-true-iff (firstOk first) (finalOk final) .0 e in
+    rw (e, passes-some firstOk refl first (f .0), passes-some finalOk refl final (f .1), or-true (gapsOk count address)) (go (eqb count 1))
+  where
+    go : (b : Bool) → not b ≡ cond b false true && true
+    go true = refl
+    go false = refl
+
+-- of a write's address the lowest word is enough: 2^32 is a multiple of 8
+pattern-low : (wide : Bool) (count first final : ℕ) (rest : List ℕ) → patternOk count (getD rest 0 0) first final ≡ patternOk count (addressFrom (1 + bit wide) rest) first final
+unfolding patternOk addressFrom
+pattern-low false count first final rest = refl
+pattern-low true count first final rest =
+    let e : (getD rest 0 0 + 4294967296 * getD rest 1 0) % 8 ≡ getD rest 0 0 % 8 = omega arith in
+    rw e
+
+pub enables-low : (byte0 count byte1 at : ℕ) (ws : List ℕ) → kindOf byte0 ≡ Write
+    → patternOk count (getD ws at 0) (firstOf byte1) (finalOf byte1) ≡ enablesOk (kindOf byte0) count (addressFrom (addressWords byte0) (drop at ws)) byte1
+enables-low byte0 count byte1 at ws kind =
+    let low : getD (drop at ws) 0 0 ≡ getD ws at 0 = getD-drop at ws 0 0 ∙ ap (λ (n : ℕ). getD ws n 0) (add-zero at) in
+    rw (kind, ← low) (pattern-low (wideOf byte0) count (firstOf byte1) (finalOf byte1) (drop at ws))
 
 -- a refusal is no meaning
 pub no-mean : {A B : Type 0} {r : Refusal} {a : A} → Wrong r ≡ Means a → B

@@ -19,9 +19,9 @@ use Rattle.message.specs.declared.walk.Step.the-variants.{Read, Refused}
 use Rattle.message.specs.declared.walk.Walked.{Walked}
 use Rattle.message.specs.declared.walk.Walked.the-variants.{WellFormed, Malformed}
 use Rattle.message.specs.Limits.{limit}
-use Rattle.message.specs.Header.{kindOf, countOf, lastOf, bodyWords, replyWords, headOf}
-use Rattle.message.specs.Walk.{refusal, faultOf, stepOn, stepAt}
-use Rattle.message.specs.Request.{Command, Request, Reading, Wrong, Means, commandOf, before, turn, commandsFrom, replies, ended, endOf, finish, walked, lengthOk, read, walkOf}
+use Rattle.message.specs.Header.{kindOf, countOf, lastOf, addressWords, bodyWords, replyWords, headOf}
+use Rattle.message.specs.Walk.{refusal, faultOf, stepOn}
+use Rattle.message.specs.Request.{Command, Request, Reading, Wrong, Means, addressFrom, commandOf, before, turn, commandsFrom, stepAt, replies, ended, endOf, finish, walked, lengthOk, read, walkOf}
 use Rattle.message.proofs.Laws.Headers.{reply-le}
 use Rattle.message.proofs.Laws.Faults.{Sound, sound, skipped, past}
 use Rattle.message.proofs.Laws.Back.{Right, right, ended-is}
@@ -37,16 +37,19 @@ pub unrolled : (byte0 : ℕ) (ws : List ℕ) (at : ℕ)
 unfolding stepAt commandsFrom
 unrolled byte0 ws at = go (ltb at (length ws)) refl
   where
+    address : ℕ
+    address = addressFrom (addressWords byte0) (drop (at + 1) ws)
+
     go : (b : Bool) → ltb at (length ws) ≡ b
         → commandsFrom byte0 0 (drop at ws)
-        ≡ turn (cond b (stepOn byte0 (getD ws at 0) (length ws - at - 1)) (Refused (refusal 3))) (commandOf byte0 (getD ws at 0) (drop (at + 1) ws)) (λ n. commandsFrom byte0 0 (drop (at + 1 + n) ws))
+        ≡ turn (cond b (stepOn byte0 (getD ws at 0) (length ws - at - 1) address) (Refused (refusal 3))) (commandOf byte0 (getD ws at 0) (drop (at + 1) ws)) (λ n. commandsFrom byte0 0 (drop (at + 1 + n) ws))
     go false z = rw (drop-of-length-le ws (ltb-false at (length ws) z))
     go true z =
         let l = ltb-true at (length ws) z in
         let e1 : drop at ws ≡ getD ws at 0 ∷ drop (at + 1) ws = rw add-one (drop-cons ws at 0 l) in
         let e2 : length (drop (at + 1) ws) ≡ length ws - at - 1 = length-drop (at + 1) ws ∙ omega arith in
         rw (e1, e2)
-        (turn-same (stepOn byte0 (getD ws at 0) (length ws - at - 1)) _ _ _ (λ n. skipped byte0 n (drop (at + 1) ws) ∙ ap (commandsFrom byte0 0) (drop-drop n (at + 1) ws)))
+        (turn-same (stepOn byte0 (getD ws at 0) (length ws - at - 1) address) _ _ _ (λ n. skipped byte0 n (drop (at + 1) ws) ∙ ap (commandsFrom byte0 0) (drop-drop n (at + 1) ws)))
 
 -- a header that was read, at its position
 pub record Got (byte0 : ℕ) (ws : List ℕ) (at : ℕ) (d : Head) : Type 0 where
@@ -56,16 +59,19 @@ pub record Got (byte0 : ℕ) (ws : List ℕ) (at : ℕ) (d : Head) : Type 0 wher
 
 pub got : (byte0 : ℕ) (ws : List ℕ) (at : ℕ) (d : Head) → stepAt byte0 ws at ≡ Read d → Got byte0 ws at d
 unfolding stepAt stepOn headOf
-got byte0 ws at d e = go (ltb at (length ws)) refl (eqb (faultOf byte0 (getD ws at 0) (length ws - at - 1)) 0) refl e
+got byte0 ws at d e = go (ltb at (length ws)) refl (eqb fault 0) refl e
   where
-    go : (a : Bool) → ltb at (length ws) ≡ a → (b : Bool) → eqb (faultOf byte0 (getD ws at 0) (length ws - at - 1)) 0 ≡ b
-        → cond a (cond b (Read (headOf byte0 (getD ws at 0))) (Refused (refusal (faultOf byte0 (getD ws at 0) (length ws - at - 1))))) (Refused (refusal 3)) ≡ Read d
+    fault : ℕ
+    fault = faultOf byte0 (getD ws at 0) (length ws - at - 1) (addressFrom (addressWords byte0) (drop (at + 1) ws))
+
+    go : (a : Bool) → ltb at (length ws) ≡ a → (b : Bool) → eqb fault 0 ≡ b
+        → cond a (cond b (Read (headOf byte0 (getD ws at 0))) (Refused (refusal fault))) (Refused (refusal 3)) ≡ Read d
         → Got byte0 ws at d
     go false z b y e = let n : _≡_ {A = ℕ} 0 1 = cc in absurd (omega arith)
     go true z false y e = let n : _≡_ {A = ℕ} 0 1 = cc in absurd (omega arith)
     go true z true y e =
         let l = ltb-true at (length ws) z in
-        let s = sound byte0 (getD ws at 0) (length ws - at - 1) (eqb-true _ _ y) in
+        let s = sound byte0 (getD ws at 0) (length ws - at - 1) _ (eqb-true _ _ y) in
         let is : headOf byte0 (getD ws at 0) ≡ d = cc in
         let b : d .body ≡ bodyWords byte0 (countOf (getD ws at 0)) = ap (λ (x : Head). x .body) (sym is) in
         record { here = l; within = omega (arith, s .within); counted = ap (λ (x : Head). x .count) (sym is) }

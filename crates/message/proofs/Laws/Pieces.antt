@@ -1,17 +1,17 @@
 -- A request's words piece by piece: an address, a command, one command more. Whoever writes a request cites these. Assumes nothing.
 use Prim.Native.Nat.{ℕ, _+_, _/_, _%_, _<_, _≤_}
 use mathlib.Core.Path.{_≡_, refl, sym, _∙_}
-use mathlib.Core.Bool.{Bool, true, false, cond, not, _&&_, false≢true}
+use mathlib.Core.Bool.{Bool, true, false, cond, not, _&&_, _||_, false≢true}
 use mathlib.Core.List.{List, [], _∷_, _++_, append-assoc, append-nil}
 use native.Mathlib.Omega.{arith}
-use lib.Dec.{ltb, eqb}
+use lib.Dec.{eqb}
 use lib.ListN.{length, getD, length-append}
 use Rattle.word.specs.Words.{wordsOf, bytesOf, Words, Below}
 use Rattle.word.proofs.Runs.{below-append}
 use Rattle.word.proofs.Crossing.{words-back, bytes-below}
 use Rattle.message.specs.Limits.{limit}
 use Rattle.message.specs.Header.{kindOf, headerFrom, addressWords, bodyWords, replyWords}
-use Rattle.message.specs.Walk.{refusal, asks, patternOk}
+use Rattle.message.specs.Walk.{refusal, asks, gapless, patternOk}
 use Rattle.message.specs.Request.{Command, Wrong, addressIn, addressTop, lengthOk, read, commandWords, none, requestWords, written, replies, All, FitsCommand}
 use Rattle.message.specs.Refusals.{openWords, faultIn, FaultAfter}
 use Rattle.message.proofs.Laws.Headers.{byte0-back, address-le}
@@ -105,17 +105,18 @@ pub replies-none : (byte0 : ℕ) → replies byte0 [] ≡ 0
 unfolding replies
 replies-none byte0 = refl
 
--- some write of each count has enables that are allowed: all bytes
+-- some enables of a write of each count are allowed at every address: all bytes
 abbrev pub wholeLast : ℕ → ℕ
-wholeLast count = cond (ltb count 2) 0 15
+wholeLast count = cond (eqb count 1) 0 15
 
-pub some-pattern : (count : ℕ) → patternOk count 15 (wholeLast count) ≡ true
+pub some-pattern : (count address : ℕ) → patternOk count address 15 (wholeLast count) ≡ true
 unfolding patternOk
-some-pattern count = go (ltb count 2)
+some-pattern count address = go (eqb count 1) (eqb count 2 && eqb (address % 8) 0)
   where
-    go : (b : Bool) → cond b (eqb (cond b 0 15) 0) (not (eqb 15 0) && not (eqb (cond b 0 15) 0)) ≡ true
-    go true = refl
-    go false = refl
+    go : (b g : Bool) → cond b (eqb (cond b 0 15) 0) (not (eqb 15 0) && not (eqb (cond b 0 15) 0)) && (b || g || gapless 15 (cond b 0 15)) ≡ true
+    go true g = refl
+    go false true = refl
+    go false false = refl
 
 -- a fitting command's words
 pub command-long : (byte0 : ℕ) (last : Bool) (c : Command) → FitsCommand byte0 c → length (commandWords byte0 last c) ≡ 1 + bodyWords byte0 (c .count)

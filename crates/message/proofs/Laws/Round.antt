@@ -56,7 +56,7 @@ module _ (byte0 : ℕ) (hb : byte0 < 256) (asking : asks (kindOf byte0) ≡ true
     byte1-is : byte1Of h ≡ c .byte1
     byte1-is = byte1-back byte0 _ _ l hb (f .byte) (f .twelve)
 
-    pub sound-header : (m : ℕ) → (l ≡ true → m ≡ 0) → Sound byte0 h (bodyWords byte0 (c .count) + m)
+    pub sound-header : (m : ℕ) → (l ≡ true → m ≡ 0) → Sound byte0 h (bodyWords byte0 (c .count) + m) (c .address)
     sound-header m e =
         record {
           same = byte0-back byte0 _ _ l hb (f .byte) (f .twelve);
@@ -78,14 +78,17 @@ module _ (byte0 : ℕ) (hb : byte0 < 256) (asking : asks (kindOf byte0) ≡ true
     pub body-long : length (ad ++ c .payload) ≡ bodyWords byte0 (c .count)
     body-long = length-append ad (c .payload) ∙ rw (ad-long, f .long)
 
+    address-is : (r : List ℕ) → addressFrom (addressWords byte0) (ad ++ c .payload ++ r) ≡ c .address
+    address-is r = rw (append-assoc ad (c .payload) r) (address-back (addressWords byte0) (c .address) (c .payload ++ r) (f .reaches))
+
     pub command-is : (r : List ℕ) → commandOf byte0 h (ad ++ c .payload ++ r) ≡ c
     unfolding commandOf
     command-is r =
         rw (
           count-is,
           byte1-is,
+          address-is r,
           append-assoc ad (c .payload) r,
-          address-back (addressWords byte0) (c .address) (c .payload ++ r) (f .reaches),
           drop-at ad (c .payload ++ r) (addressWords byte0) ad-long,
           take-at (c .payload) r _ (f .long),
         )
@@ -96,8 +99,8 @@ module _ (byte0 : ℕ) (hb : byte0 < 256) (asking : asks (kindOf byte0) ≡ true
     unfolding commandsFrom commandWords headOf
     one-back r e =
         let whole : length (ad ++ c .payload ++ r) ≡ bodyWords byte0 (c .count) + length r = length-append (ad ++ c .payload) r ∙ rw body-long in
-        let st : stepOn byte0 h (length (ad ++ c .payload ++ r)) ≡ Read (headOf byte0 h) =
-        rw whole (step-read byte0 h _ (faultless byte0 h _ (sound-header (length r) e))) in
+        let st : stepOn byte0 h (length (ad ++ c .payload ++ r)) (addressFrom (addressWords byte0) (ad ++ c .payload ++ r)) ≡ Read (headOf byte0 h) =
+        rw (whole, address-is r) (step-read byte0 h _ _ (faultless byte0 h _ _ (sound-header (length r) e))) in
         rw (
           st,
           command-is r,

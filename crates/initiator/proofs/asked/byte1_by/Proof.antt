@@ -12,10 +12,14 @@ enum-told-2 : tie.Need-enum-told-2
 enum-told-2 c = search needs
 
 mul-result : tie.Need-mul-result
-mul-result c = omega (arith, fields-lt _ _ _ (rw (c .enum-told2 .given .1) at (c .before .before .pre)))
+mul-result c =
+    let t = c .before in
+    omega (arith, fields-lt _ _ (rw (t .enum-told2 .given .1) at (t .before .before .pre)))
 
 add-result : tie.Need-add-result
-add-result c = omega (arith, fields-lt _ _ _ (rw (c .enum-told2 .given .1) at (c .before .before .pre)))
+add-result c =
+    let t = c .before .before in
+    omega (arith, fields-lt _ _ (rw (t .enum-told2 .given .1) at (t .before .before .pre)))
 
 enum-told-3 : tie.Need-enum-told-3
 enum-told-3 c = search needs
@@ -28,8 +32,9 @@ returns c = search needs
 
 returns-2 : tie.Need-returns-2
 returns-2 c =
-    let h = fields-lt _ _ _ (rw (c .enum-told2 .given .1) at (c .before .before .pre)) in
-    (rw (c .enum-told2 .given .1), omega arith)
+    let t = c .before .before in
+    let h = fields-lt _ _ (rw (t .enum-told2 .given .1) at (t .before .before .pre)) in
+    (rw (t .enum-told2 .given .1), omega arith)
 
 returns-3 : tie.Need-returns-3
 returns-3 c = search needs

@@ -40,8 +40,8 @@ returns-4 c =
     let s1 = s2 .before .before in
     simp (eq-eqb _ _ (s1 .if1 .left), flag-on (s2 .before .asks-by .ensures) (s2 .if2 .left), eqb-on (s3 .before .reserved .ensures) (s3 .if3 .left), flag-off (c .before .count-fits .ensures) (c .if4 .taken))
 
-enables-fit-requires : tie.Need-enables-fit-requires
-enables-fit-requires c κs = search needs
+address-words-requires : tie.Need-address-words-requires
+address-words-requires c κs = search needs
 
 returns-5 : tie.Need-returns-5
 unfolding faultOf
@@ -50,10 +50,10 @@ returns-5 c =
     let s3 = s4 .before .before in
     let s2 = s3 .before .before in
     let s1 = s2 .before .before in
-    simp (eq-eqb _ _ (s1 .if1 .left), flag-on (s2 .before .asks-by .ensures) (s2 .if2 .left), eqb-on (s3 .before .reserved .ensures) (s3 .if3 .left), flag-on (s4 .before .count-fits .ensures) (s4 .if4 .left), flag-off (c .before .enables-fit .ensures) (c .if5 .taken))
+    simp (eq-eqb _ _ (s1 .if1 .left), flag-on (s2 .before .asks-by .ensures) (s2 .if2 .left), eqb-on (s3 .before .reserved .ensures) (s3 .if3 .left), flag-on (s4 .before .count-fits .ensures) (s4 .if4 .left), leb-off (c .before .address-words .ensures .0) (c .if5 .taken))
 
-address-words-requires : tie.Need-address-words-requires
-address-words-requires c κs = search needs
+enables-fit-requires : tie.Need-enables-fit-requires
+enables-fit-requires c κs = search needs
 
 returns-6 : tie.Need-returns-6
 unfolding faultOf
@@ -63,7 +63,7 @@ returns-6 c =
     let s3 = s4 .before .before in
     let s2 = s3 .before .before in
     let s1 = s2 .before .before in
-    simp (eq-eqb _ _ (s1 .if1 .left), flag-on (s2 .before .asks-by .ensures) (s2 .if2 .left), eqb-on (s3 .before .reserved .ensures) (s3 .if3 .left), flag-on (s4 .before .count-fits .ensures) (s4 .if4 .left), flag-on (s5 .before .enables-fit .ensures) (s5 .if5 .left), leb-off (c .before .address-words .ensures .0) (c .if6 .taken))
+    simp (eq-eqb _ _ (s1 .if1 .left), flag-on (s2 .before .asks-by .ensures) (s2 .if2 .left), eqb-on (s3 .before .reserved .ensures) (s3 .if3 .left), flag-on (s4 .before .count-fits .ensures) (s4 .if4 .left), leb-on (s5 .before .address-words .ensures .0) (s5 .if5 .left), flag-off (c .before .enables-fit .ensures) (c .if6 .taken))
 
 body-words-requires : tie.Need-body-words-requires
 body-words-requires c κs = search needs
@@ -77,7 +77,7 @@ returns-7 c =
     let s3 = s4 .before .before in
     let s2 = s3 .before .before in
     let s1 = s2 .before .before in
-    simp (eq-eqb _ _ (s1 .if1 .left), flag-on (s2 .before .asks-by .ensures) (s2 .if2 .left), eqb-on (s3 .before .reserved .ensures) (s3 .if3 .left), flag-on (s4 .before .count-fits .ensures) (s4 .if4 .left), flag-on (s5 .before .enables-fit .ensures) (s5 .if5 .left), leb-on (s6 .before .address-words .ensures .0) (s6 .if6 .left), leb-off (c .before .body-words .ensures .0) (c .if7 .taken))
+    simp (eq-eqb _ _ (s1 .if1 .left), flag-on (s2 .before .asks-by .ensures) (s2 .if2 .left), eqb-on (s3 .before .reserved .ensures) (s3 .if3 .left), flag-on (s4 .before .count-fits .ensures) (s4 .if4 .left), leb-on (s5 .before .address-words .ensures .0) (s5 .if5 .left), flag-on (s6 .before .enables-fit .ensures) (s6 .if6 .left), leb-off (c .before .body-words .ensures .0) (c .if7 .taken))
 
 ends-fit-requires : tie.Need-ends-fit-requires
 ends-fit-requires c κs = search needs
@@ -92,7 +92,7 @@ returns-8 c =
     let s3 = s4 .before .before in
     let s2 = s3 .before .before in
     let s1 = s2 .before .before in
-    simp (eq-eqb _ _ (s1 .if1 .left), flag-on (s2 .before .asks-by .ensures) (s2 .if2 .left), eqb-on (s3 .before .reserved .ensures) (s3 .if3 .left), flag-on (s4 .before .count-fits .ensures) (s4 .if4 .left), flag-on (s5 .before .enables-fit .ensures) (s5 .if5 .left), leb-on (s6 .before .address-words .ensures .0) (s6 .if6 .left), leb-on (s7 .before .body-words .ensures .0) (s7 .if7 .left), flag-off (c .before .ends-fit .ensures) (c .if8 .taken))
+    simp (eq-eqb _ _ (s1 .if1 .left), flag-on (s2 .before .asks-by .ensures) (s2 .if2 .left), eqb-on (s3 .before .reserved .ensures) (s3 .if3 .left), flag-on (s4 .before .count-fits .ensures) (s4 .if4 .left), leb-on (s5 .before .address-words .ensures .0) (s5 .if5 .left), flag-on (s6 .before .enables-fit .ensures) (s6 .if6 .left), leb-on (s7 .before .body-words .ensures .0) (s7 .if7 .left), flag-off (c .before .ends-fit .ensures) (c .if8 .taken))
 
 returns-9 : tie.Need-returns-9
 unfolding faultOf
@@ -104,7 +104,7 @@ returns-9 c =
     let s3 = s4 .before .before in
     let s2 = s3 .before .before in
     let s1 = s2 .before .before in
-    simp (eq-eqb _ _ (s1 .if1 .left), flag-on (s2 .before .asks-by .ensures) (s2 .if2 .left), eqb-on (s3 .before .reserved .ensures) (s3 .if3 .left), flag-on (s4 .before .count-fits .ensures) (s4 .if4 .left), flag-on (s5 .before .enables-fit .ensures) (s5 .if5 .left), leb-on (s6 .before .address-words .ensures .0) (s6 .if6 .left), leb-on (s7 .before .body-words .ensures .0) (s7 .if7 .left), flag-on (c .before .ends-fit .ensures) (c .if8 .left))
+    simp (eq-eqb _ _ (s1 .if1 .left), flag-on (s2 .before .asks-by .ensures) (s2 .if2 .left), eqb-on (s3 .before .reserved .ensures) (s3 .if3 .left), flag-on (s4 .before .count-fits .ensures) (s4 .if4 .left), leb-on (s5 .before .address-words .ensures .0) (s5 .if5 .left), flag-on (s6 .before .enables-fit .ensures) (s6 .if6 .left), leb-on (s7 .before .body-words .ensures .0) (s7 .if7 .left), flag-on (c .before .ends-fit .ensures) (c .if8 .left))
 
 pub fault-spec : {M : Type 1} → statement M
 fault-spec =
@@ -117,9 +117,9 @@ fault-spec =
     returns-3
     count-fits-requires
     returns-4
-    enables-fit-requires
-    returns-5
     address-words-requires
+    returns-5
+    enables-fit-requires
     returns-6
     body-words-requires
     returns-7

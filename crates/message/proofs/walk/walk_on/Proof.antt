@@ -12,7 +12,8 @@ use Rattle.word.proofs.Crossing.{length-wordsOf}
 use Rattle.message.specs.declared.walk.Step.the-variants.{Read, Refused}
 use Rattle.message.specs.declared.walk.Walked.the-variants.{Malformed}
 use Rattle.message.specs.Header.{kindOf, replyWords}
-use Rattle.message.specs.Walk.{stepAt, refusalOf}
+use Rattle.message.specs.Walk.{refusalOf}
+use Rattle.message.specs.Request.{stepAt}
 use Rattle.message.proofs.Laws.Going.{reply-each, Going, got, going-starts, going-refused, going-last, going-small, going-on, going-less}
 use Rattle.message.proofs.walk.walk_on.Statement.{statement}
 use Rattle.message.proofs.walk.walk_on.Tie as tie
