@@ -1,9 +1,13 @@
 -- Worked and hostile examples, from bytes, with the number that each must get. `proofs/Laws/Worked.antt` computes them. Assumes nothing.
-use Prim.Native.Nat.{ℕ}
+use Prim.Native.Nat.{ℕ, zero, suc, _+_}
+use mathlib.Core.Path.{_≡_}
 use mathlib.Core.Bool.{Bool, true, false, _&&_}
 use mathlib.Core.List.{List, [], _∷_}
 use lib.Dec.{eqb}
 use Rattle.word.specs.Words.{bytesOf}
+use Rattle.message.specs.declared.header.Kind.the-variants.{Write}
+use Rattle.message.specs.Header.{bit}
+use Rattle.message.specs.Walk.{enablesOk}
 use Rattle.message.specs.Request.{Request, Reading, Wrong, Means, read}
 use Rattle.message.specs.Answer.{Answered, judge}
 
@@ -80,6 +84,9 @@ requests =
     ∷ words (0x8002A550 ∷ 0x00000008 ∷ 0x00000001 ∷ gappedWords) 0
     ∷ words (0x8002A550 ∷ 0x0000000C ∷ 0x00000001 ∷ gappedWords) 8
     ∷ words (0x8003A510 ∷ 0x00000008 ∷ 0x11111111 ∷ 0x22222222 ∷ 0x33333333 ∷ []) 8
+    -- a first or a last field of 0 at 8 all the same
+    ∷ words (0x8002F010 ∷ 0x00000008 ∷ 0x11111111 ∷ 0x22222222 ∷ []) 8
+    ∷ words (0x80020F10 ∷ 0x00000008 ∷ 0x11111111 ∷ 0x22222222 ∷ []) 8
     -- no gaps, at 12: F and F, E and 7, C and 3, 8 and 1; each field of the one list in the other's place
     ∷ words (0x8002FF10 ∷ 0x0000000C ∷ 0x11111111 ∷ 0x22222222 ∷ []) 0
     ∷ words (0x80027E10 ∷ 0x0000000C ∷ 0x11111111 ∷ 0x22222222 ∷ []) 0
@@ -103,6 +110,15 @@ requests =
 
 abbrev pub right : Example → Bool
 right e = eqb (numberOf (read (e .datagram))) (e .number)
+
+-- how many of the first n patterns of byte 1 a write of this count at this address may have
+unfoldable pub patterns : ℕ → ℕ → ℕ → ℕ
+patterns zero count address = 0
+patterns (suc n) count address = bit (enablesOk Write count address n) + patterns n count address
+
+-- of all 256: any first field; any two but 0; and, at 12 or with more words, the four of the one list with the four of the other
+abbrev pub PatternsCounted : Type 0
+PatternsCounted = (patterns 256 1 12 ≡ 16) × (patterns 256 2 8 ≡ 225) × (patterns 256 2 12 ≡ 16) × (patterns 256 3 8 ≡ 16)
 
 -- an answer to a request, and the number that it gets
 pub record AnswerExample : Type 0 where

@@ -2,7 +2,7 @@
 -- cite these. Assumes nothing.
 use Prim.Native.Nat.{ℕ, _+_, _<_, _≤_}
 use mathlib.Core.Path.{_≡_, refl, ap}
-use mathlib.Core.Bool.{Bool, true, false, not, cond, _&&_, false≢true}
+use mathlib.Core.Bool.{Bool, true, false, not, cond, _&&_, and-eq-true-iff}
 use native.Mathlib.Omega.{arith}
 use borrow.Author.Tests.{ltb-true, leb-true, eqb-true, eqb-false, ne-eqb, not-true}
 use lib.Dec.{eqb}
@@ -20,8 +20,7 @@ use Rattle.initiator.specs.Build.{longOk, usable, addFault, closeFault}
 
 -- two tests that both pass
 pub both : (a b : Bool) → a && b ≡ true → (a ≡ true) × (b ≡ true)
-both true b e = (refl, e)
-both false b e = absurd (false≢true e)
+both a b e = and-eq-true-iff a b .0 e
 
 -- a call that was not refused
 pub unrefused : {n : ℕ} → refusal n ≡ refusal 0 → n ≡ 0
