@@ -13,7 +13,8 @@
  *   call is lent.
  *
  * Everything else is taken as it comes: any lengths, any numbers, any records, any bytes. What is
- * wrong is refused by its number, and a refused call has changed nothing that it was lent.
+ * wrong is refused by its number, with the header word at fault where there is one, and a refused
+ * call has changed nothing that it was lent.
  *
  * No call keeps a pointer, allocates, locks or waits, and there is no state but what is lent:
  * calls on different buffers may run at the same time.
@@ -123,9 +124,14 @@ extern "C" {
 /* discovery status not OK, or word 1 has bits above 4 set, or bit 4 clear and a tag nonzero */
 #define CHARKHAVO_REFUSED_DISCOVERY UINT32_C(38)
 
-/* A refusal by its number; 0 where nothing is refused. */
+/* A refusal: its number, 0 where nothing is refused, and the index, from 0, of the header word that
+   was looked at. 3 to 9 give it in the datagram, 31 in the request (0 for a request that would be
+   refused 2 or 10, has the discovery bit or another tag), 33 to 35 in the answer; 9 and 35 for words
+   after LAST give that of LAST; where no word stands, 3, 31 and 35 give the number of words. All
+   others give 0. */
 typedef struct CharkhavoRefusal {
     uint32_t number;
+    uint32_t at;
 } CharkhavoRefusal;
 
 /* The controller: libcontroller.a. */

@@ -2,7 +2,7 @@
 """Writes the recorded night of `stdin`: python3 crates/replay/night.py > crates/replay/stdin
 
 Each record is a 4-byte length and 1,472 bytes. Every refusal 2 to 11, each kind, a repeat, a discovery between, a tag that wraps past
-15, a length over the limit and a short tail are in it.
+15, refusals at later headers, a length over the limit and a short tail are in it.
 """
 import struct
 import sys
@@ -42,6 +42,9 @@ night = [
     record([0x80010F11, 4, 0, 0]),                                  # 9: a word after LAST
     record([0x81700021, 0]),                                        # 10: one word too long
     record([0x81700020, 0]),                                        # 10: of a repeat too
+    record([0x00010F11, 0, 1] * 4 + [0x80010F12, 4, 2]),            # 4 at 12: another tag in the fifth header
+    record([0x00010F11, 0, 1, 0x80010F11, 4, 2, 0]),                # 9 at 3: the word of LAST
+    record([0x00010F11, 0, 1] * 2),                                 # 3 at 6: no third header
     record([0x80010021, 4]),                                        # a read of the word
     record([0x816F0022, 0]),                                        # the longest read
     record([0x00000003, 0x80020003, 1472, 0]),                      # two NOPs

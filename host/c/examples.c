@@ -1,7 +1,8 @@
 /* The specification's three worked examples through both libraries, as firmware would run them: a
  * discovery NOP, a read and a write, built, served, and compared with the specification's words;
  * then the same three as a loader sends them, under its own tags, with an answer lost each time.
- * Also what a C caller relies on: how the records are laid out, and NULL for what has length 0.
+ * Also what a C caller relies on: how the records are laid out, where a refusal stands, and NULL
+ * for what has length 0.
  *
  * Prints the words sent and answered; exits with 1 if anything differs. */
 #include "charkhavo.h"
@@ -14,7 +15,8 @@
 #define PLACE(type, field, place) \
     _Static_assert(offsetof(type, field) == (place), #field " of " #type)
 
-LAYOUT(CharkhavoRefusal, 4);
+LAYOUT(CharkhavoRefusal, 8);
+PLACE(CharkhavoRefusal, at, 4);
 LAYOUT(CharkhavoTagRecord, 16);
 PLACE(CharkhavoTagRecord, fresh, 0);
 PLACE(CharkhavoTagRecord, tag, 4);
@@ -39,8 +41,8 @@ PLACE(CharkhavoBuilt, building, 8);
 LAYOUT(CharkhavoDiscovery, 12);
 LAYOUT(CharkhavoSender, 8);
 PLACE(CharkhavoSender, waits, 4);
-LAYOUT(CharkhavoMoved, 12);
-PLACE(CharkhavoMoved, sender, 4);
+LAYOUT(CharkhavoMoved, 16);
+PLACE(CharkhavoMoved, sender, 8);
 LAYOUT(CharkhavoSending, 16);
 PLACE(CharkhavoSending, length, 8);
 LAYOUT(CharkhavoPart, 16);
@@ -58,7 +60,7 @@ static void expect(bool right, const char *what) {
 /* An end that cannot go on. */
 static void must(CharkhavoRefusal refusal, const char *what) {
     if (refusal.number != CHARKHAVO_ACCEPTED) {
-        printf("  %s is refused %u\n", what, (unsigned)refusal.number);
+        printf("  %s is refused %u at %u\n", what, (unsigned)refusal.number, (unsigned)refusal.at);
         exit(1);
     }
 }
@@ -210,8 +212,37 @@ static CharkhavoSender discover(struct Controller *end) {
 /* A NOP of no words, tag 0. */
 static const uint8_t nop[4] = {0x00, 0x00, 0x00, 0x80};
 
+static void expect_at(CharkhavoRefusal refusal, uint32_t number, uint32_t at, const char *what) {
+    expect(refusal.number == number && refusal.at == at, what);
+}
+
 static void expect_number(CharkhavoRefusal refusal, uint32_t number, const char *what) {
-    expect(refusal.number == number, what);
+    expect_at(refusal, number, 0, what);
+}
+
+/* Two reads of one word, the second of another tag; and an answer to two whose second status is 3. */
+static const uint8_t reads[16] = {0x20, 0, 1, 0, 0, 0, 0, 0, 0x21, 0, 1, 0x80, 4, 0, 0, 0};
+static const uint8_t answer[12] = {0x30, 0, 1, 0, 7, 0, 0, 0, 0x30, 3, 0, 0x80};
+
+/* Refusals at a later header, by each call that has them. */
+static void later_headers(struct Controller *end) {
+    uint8_t good[sizeof reads];
+    memcpy(good, reads, sizeof reads);
+    good[8] = 0x20;
+    CharkhavoSender sender = charkhavo_fresh(), waiting = {0, true};
+    CharkhavoSent sent = charkhavo_serve(end->memory, 8, end->stored, CHARKHAVO_WORDS, end->output,
+                                         CHARKHAVO_BYTES, &end->tags, reads, sizeof reads);
+    expect_at(sent.refusal, CHARKHAVO_REFUSED_BYTE_0, 2, "serving another tag midway");
+    CharkhavoRefusal refusal = charkhavo_refusal(good, 8);
+    expect_at(refusal, CHARKHAVO_REFUSED_PAST_END, 2, "a request without its second read");
+    CharkhavoMoved moved = charkhavo_offer(sender, reads, sizeof reads);
+    expect_at(moved.refusal, CHARKHAVO_REFUSED_REQUEST, 2, "offering another tag midway");
+    CharkhavoSending sending = charkhavo_send(waiting, reads, sizeof reads);
+    expect_at(sending.refusal, CHARKHAVO_REFUSED_REQUEST, 2, "sending another tag midway");
+    moved = charkhavo_take(waiting, good, sizeof good, answer, sizeof answer);
+    expect_at(moved.refusal, CHARKHAVO_REFUSED_ANSWER_HEADER, 2, "a second status 3");
+    moved = charkhavo_take(waiting, good, sizeof good, answer, 8);
+    expect_at(moved.refusal, CHARKHAVO_REFUSED_ANSWER_END, 2, "no second answer");
 }
 
 /* The controller with NULL, of length 0, for each buffer in turn. */
@@ -282,6 +313,7 @@ int main(void) {
     }
     expect(end.memory[1] == 0xFEEDC0DE, "memory after the write");
     expect(end.tags.tag == 2 && sender.next == 3 && !sender.waits, "the records at the end");
+    later_headers(&end);
     nothing_to_serve(&end);
     nothing_to_build();
     nothing_to_send();

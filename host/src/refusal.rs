@@ -3,42 +3,56 @@
 use crate::limits::{BYTES, WORDS};
 use std::fmt;
 
-/// A refusal by its number in document 01.
+/// A refusal by its number in document 01, and the index of the header word that was looked at:
+/// of the datagram for 3 to 9, of the request for 31, of the answer for 33 to 35; 0 for all others.
 #[derive(Clone, Copy, Debug, PartialEq, Eq)]
-pub struct Refusal(pub u32);
+pub struct Refusal {
+    pub number: u32,
+    pub at: u32,
+}
 
 impl Refusal {
+    /// A refusal that has no header word, or the first.
+    pub const fn of(number: u32) -> Refusal {
+        Refusal { number, at: 0 }
+    }
+
+    /// The same refusal at this word.
+    pub const fn at_word(self, word: usize) -> Refusal {
+        Refusal { at: word as u32, ..self }
+    }
+
     // Turned away by the controller.
-    pub const LENT: Refusal = Refusal(1);
-    pub const LENGTH: Refusal = Refusal(2);
-    pub const PAST_END: Refusal = Refusal(3);
-    pub const BYTE_0: Refusal = Refusal(4);
-    pub const KIND: Refusal = Refusal(5);
-    pub const RESERVED: Refusal = Refusal(6);
-    pub const COUNT: Refusal = Refusal(7);
-    pub const ENABLES: Refusal = Refusal(8);
-    pub const AFTER_LAST: Refusal = Refusal(9);
-    pub const LONG_ANSWER: Refusal = Refusal(10);
-    pub const OUT_OF_STEP: Refusal = Refusal(11);
+    pub const LENT: Refusal = Refusal::of(1);
+    pub const LENGTH: Refusal = Refusal::of(2);
+    pub const PAST_END: Refusal = Refusal::of(3);
+    pub const BYTE_0: Refusal = Refusal::of(4);
+    pub const KIND: Refusal = Refusal::of(5);
+    pub const RESERVED: Refusal = Refusal::of(6);
+    pub const COUNT: Refusal = Refusal::of(7);
+    pub const ENABLES: Refusal = Refusal::of(8);
+    pub const AFTER_LAST: Refusal = Refusal::of(9);
+    pub const LONG_ANSWER: Refusal = Refusal::of(10);
+    pub const OUT_OF_STEP: Refusal = Refusal::of(11);
 
     // Building a message.
-    pub const BUILDING: Refusal = Refusal(21);
-    pub const CLOSING: Refusal = Refusal(22);
-    pub const ADDED_COUNT: Refusal = Refusal(23);
-    pub const ADDED_ENABLES: Refusal = Refusal(24);
-    pub const ADDED_ADDRESS: Refusal = Refusal(25);
-    pub const NO_ROOM: Refusal = Refusal(26);
+    pub const BUILDING: Refusal = Refusal::of(21);
+    pub const CLOSING: Refusal = Refusal::of(22);
+    pub const ADDED_COUNT: Refusal = Refusal::of(23);
+    pub const ADDED_ENABLES: Refusal = Refusal::of(24);
+    pub const ADDED_ADDRESS: Refusal = Refusal::of(25);
+    pub const NO_ROOM: Refusal = Refusal::of(26);
 
     // The sender.
-    pub const NONE_WAITS: Refusal = Refusal(30);
-    pub const REQUEST: Refusal = Refusal(31);
-    pub const ANSWER_LENGTH: Refusal = Refusal(32);
-    pub const ANSWER_BYTE_0: Refusal = Refusal(33);
-    pub const ANSWER_HEADER: Refusal = Refusal(34);
-    pub const ANSWER_END: Refusal = Refusal(35);
-    pub const ONE_WAITS: Refusal = Refusal(36);
-    pub const NEXT_TAG: Refusal = Refusal(37);
-    pub const DISCOVERY: Refusal = Refusal(38);
+    pub const NONE_WAITS: Refusal = Refusal::of(30);
+    pub const REQUEST: Refusal = Refusal::of(31);
+    pub const ANSWER_LENGTH: Refusal = Refusal::of(32);
+    pub const ANSWER_BYTE_0: Refusal = Refusal::of(33);
+    pub const ANSWER_HEADER: Refusal = Refusal::of(34);
+    pub const ANSWER_END: Refusal = Refusal::of(35);
+    pub const ONE_WAITS: Refusal = Refusal::of(36);
+    pub const NEXT_TAG: Refusal = Refusal::of(37);
+    pub const DISCOVERY: Refusal = Refusal::of(38);
 }
 
 /// Document 01's sentence for each number; `{words}` and `{bytes}` stand for the limit.
@@ -87,8 +101,9 @@ fn figures(number: usize) -> String {
 
 impl fmt::Display for Refusal {
     fn fmt(&self, f: &mut fmt::Formatter) -> fmt::Result {
-        let words = sentence(self.0).unwrap_or_else(|| "no refusal of document 01".into());
-        write!(f, "refused {}: {}", self.0, words)
+        let Refusal { number, at } = *self;
+        let words = sentence(number).unwrap_or_else(|| "no refusal of document 01".into());
+        write!(f, "refused {number} at {at}: {words}")
     }
 }
 

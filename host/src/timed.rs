@@ -76,7 +76,7 @@ impl Controller for Plain {
         datagram: &[u8],
     ) -> (u32, usize) {
         let served = plain::serve(memory, stored, output, tags, datagram);
-        (served.refusal, served.sent)
+        (served.refusal.number, served.sent)
     }
 }
 

@@ -21,7 +21,9 @@ fn the_limit_is_told_in_figures() {
         let words = sentence(2).unwrap();
         assert_eq!(words, "0 bytes, not a multiple of 4, or over 1,472");
         let words = Refusal::LONG_ANSWER.to_string();
-        assert_eq!(words, "refused 10: the answer with all commands OK would pass 368 words");
+        assert_eq!(words, "refused 10 at 0: the answer with all commands OK would pass 368 words");
+        let words = Refusal::BYTE_0.at_word(12).to_string();
+        assert_eq!(words, "refused 4 at 12: byte 0 differs from the first header's");
     }
     assert!(TABLE.iter().all(|(number, _)| !sentence(*number).unwrap().contains('{')));
 }

@@ -16,7 +16,11 @@ fn head(tag: u32) -> Head {
 }
 
 fn refused<T>(number: u32) -> Result<T, Refusal> {
-    Err(Refusal(number))
+    Err(Refusal::of(number))
+}
+
+fn refused_at<T>(number: u32, word: usize) -> Result<T, Refusal> {
+    Err(Refusal::of(number).at_word(word))
 }
 
 #[test]
@@ -34,6 +38,7 @@ fn a_controller_serves_repeats_and_refuses() {
     let late = bytes_of(&[0x8001_0F12, 4, 0]);
     assert_eq!(controller.serve(&mut memory, &late), refused(11));
     assert_eq!(controller.serve(&mut memory, &[]), refused(2));
+    assert_eq!(controller.serve(&mut memory, &bytes_of(&READS[..2])), refused_at(3, 2));
     assert_eq!(controller.serve(&mut [], &bytes_of(&A)), refused(1));
     assert_eq!(controller.serve(&mut vec![0; MEMORY + 1], &bytes_of(&A)), refused(1));
     assert!(controller == before && memory == [0, 5, 0, 0, 0, 0, 0, 0]);
@@ -96,6 +101,7 @@ fn a_sender_keeps_its_message_until_it_is_answered() {
     assert_eq!(sender.take(&answer), refused(30));
     assert_eq!(sender.offer(&bytes_of(&[0x8001_0021, 0])), refused(31));
     assert_eq!(sender.offer(&vec![0; BYTES + 4]), refused(31));
+    assert_eq!(sender.offer(&reads[..8]), refused_at(31, 2));
     assert_eq!(sender, Sender::fresh());
     assert_eq!(sender.offer(&reads), Ok(()));
     let waiting = sender.clone();
@@ -103,7 +109,7 @@ fn a_sender_keeps_its_message_until_it_is_answered() {
     assert_eq!(sender.take(&[]), refused(32));
     assert_eq!(sender.take(&bytes_of(&[0x8000_0031])), refused(33));
     assert_eq!(sender.take(&bytes_of(&[0x8000_0030])), refused(34));
-    assert_eq!(sender.take(&answer[..16]), refused(35));
+    assert_eq!(sender.take(&answer[..16]), refused_at(35, 3));
     assert!(sender == waiting && sender.waits());
     assert_eq!(sender.send(), Ok(reads.as_slice()));
     assert_eq!(sender.take(&answer), Ok(Outcome::new(&reads, &answer)));

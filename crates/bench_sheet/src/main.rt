@@ -2,46 +2,8 @@
 // words of memory that a line speaks of, and the record.
 use completer::serving;
 use completer::tags::TagRecord;
-use libc::STDOUT_FILENO;
 
-fn say(text: &[u8]) {
-    io::write_all(STDOUT_FILENO, text);
-}
-
-fn number(text: &[u8], n: u64) {
-    say(text);
-    io::print_decimal(STDOUT_FILENO, n);
-}
-
-fn word_of(text: &[u8], w: u32) {
-    say(text);
-    io::print_hex(STDOUT_FILENO, w as u64, 8);
-}
-
-// The first words of what was sent: all where they are few.
-fn sent_words(output: &[u8], words: usize) {
-    let mut i = 0;
-    while i < words {
-        if output.len() / 4 <= i {
-            return;
-        }
-        if 4 <= i {
-            say(b" ..");
-            return;
-        }
-        word_of(b" ", word::word_at(output, i));
-        i += 1;
-    }
-}
-
-fn say_tags(tags: TagRecord) {
-    if tags.fresh {
-        say(b"; fresh\n");
-    } else {
-        number(b"; tag ", tags.tag as u64);
-        say(b"\n");
-    }
-}
+mod print;
 
 // A datagram of words, served; its line says what came of it. Hands the record on.
 fn serve(
@@ -52,22 +14,23 @@ fn serve(
     tags: TagRecord,
     datagram: &[u8],
 ) -> TagRecord {
-    say(label);
+    print::say(label);
     let served = serving::serve(memory, stored, output, tags, datagram);
     let refusal = served.refusal;
     if refusal.number != 0 {
-        number(b": refused ", refusal.number as u64);
+        print::number(b": refused ", refusal.number as u64);
+        print::number(b" at ", refusal.at as u64);
     } else {
-        number(b": sent ", (served.sent / 4) as u64);
-        say(b" words");
-        sent_words(output, served.sent / 4);
+        print::number(b": sent ", (served.sent / 4) as u64);
+        print::say(b" words");
+        print::sent_words(output, served.sent / 4);
     }
-    word_of(b"; words 0 to 3 ", memory[0]);
-    word_of(b" ", memory[1]);
-    word_of(b" ", memory[2]);
-    word_of(b" ", memory[3]);
+    print::word_of(b"; words 0 to 3 ", memory[0]);
+    print::word_of(b" ", memory[1]);
+    print::word_of(b" ", memory[2]);
+    print::word_of(b" ", memory[3]);
     let tags = served.tags;
-    say_tags(tags);
+    print::say_tags(tags);
     tags
 }
 
@@ -230,6 +193,37 @@ fn gaps(stored: &mut [u32; message::LIMIT], output: &mut [u8; message::LIMIT_BYT
     );
 }
 
+// Four writes and a fifth of another tag: refused 4 at 12, and none of them is carried out.
+fn later(stored: &mut [u32; message::LIMIT], output: &mut [u8; message::LIMIT_BYTES]) {
+    let w = 0x0001_0F10;
+    let d = 0x1111_1111;
+    let mut memory = bench();
+    line(
+        b"* another tag in the fifth header",
+        &mut memory,
+        stored,
+        output,
+        TagRecord::fresh(),
+        &[
+            w,
+            0,
+            d,
+            w,
+            0,
+            d,
+            w,
+            0,
+            d,
+            w,
+            0,
+            d,
+            0x8001_0F11,
+            4,
+            0x2222_2222,
+        ],
+    );
+}
+
 // The lines that are run only.
 fn refusals(stored: &mut [u32; message::LIMIT], output: &mut [u8; message::LIMIT_BYTES]) {
     let fresh = TagRecord::fresh();
@@ -291,6 +285,7 @@ fn main() {
     out_of_step(&mut stored, &mut output);
     errors(&mut stored, &mut output);
     gaps(&mut stored, &mut output);
+    later(&mut stored, &mut output);
     refusals(&mut stored, &mut output);
     lengths(&mut stored, &mut output);
 }

@@ -9,8 +9,9 @@ use Rattle.word.specs.Words.{bytesOf}
 use Rattle.message.specs.Limits.{limit, limitBytes}
 use Rattle.completer.specs.declared.tags.TagRecord.{TagRecord}
 use Rattle.completer.specs.declared.serving.Verdict.the-variants.{Refused}
-use Rattle.message.specs.Walk.{refusal}
-use Rattle.message.specs.Examples.{gapped}
+use Rattle.message.specs.declared.refusal.Refusal.{Refusal}
+use Rattle.message.specs.Walk.{refusedAt, refusal}
+use Rattle.message.specs.Examples.{sameRefusal, gapped, fifthDiffers}
 use Rattle.completer.specs.Tags.{freshRecord}
 use Rattle.completer.specs.Serving.{After, afterBy, after}
 
@@ -22,19 +23,19 @@ benchMemory = 0 ∷ 0 ∷ 0 ∷ 0 ∷ 0xF00DFACE ∷ 0 ∷ 0 ∷ 0 ∷ []
 abbrev pub holding : ℕ → ℕ → TagRecord
 holding tag words = record { fresh = false; tag = tag; words = words }
 
--- a line of the sheet: the record at first, the datagrams in turn, and after the last one the refusal (0: none), all words sent,
--- the whole memory and the record
+-- a line of the sheet: the record at first, the datagrams in turn, and after the last one the refusal (number 0: none), all words
+-- sent, the whole memory and the record
 pub record Line : Type 0 where
   pub start : TagRecord
   pub datagrams : List (List ℕ)
-  pub number : ℕ
+  pub given : Refusal
   pub words : List ℕ
   pub memory : List ℕ
   pub tags : TagRecord
 
 abbrev pub line : TagRecord → List (List ℕ) → ℕ → List ℕ → List ℕ → TagRecord → Line
 line start datagrams number words memory tags =
-    record { start = start; datagrams = datagrams; number = number; words = words; memory = memory; tags = tags }
+    record { start = start; datagrams = datagrams; given = refusal number; words = words; memory = memory; tags = tags }
 
 -- one call after another, each lent what the last one left
 unfoldable pub plays : After → List (List ℕ) → After
@@ -57,7 +58,7 @@ benchStart tags = afterBy (Refused (refusal 0)) benchMemory (replicate limit 0) 
 unfoldable pub right : Line → Bool
 right l =
     let a = plays (benchStart (l .start)) (l .datagrams) in
-    eqb (a .served .refusal .number) (l .number) && same (take (a .served .sent) (a .output)) (bytesOf (l .words)) && same (a .memory) (l .memory)
+    sameRefusal (a .served .refusal) (l .given) && same (take (a .served .sent) (a .output)) (bytesOf (l .words)) && same (a .memory) (l .memory)
     && sameRecord (a .served .tags) (l .tags)
 
 unfoldable pub every : List Line → Bool
@@ -94,6 +95,8 @@ benchSheet =
     -- [3] "Add a bench line for each side, at addresses 8 and 12": carried out, and 8
     ∷ line freshRecord (gapped 8 ∷ []) 0 (0x80000030 ∷ []) (0 ∷ 0 ∷ 0x00220044 ∷ 0x55007700 ∷ 0xF00DFACE ∷ 0 ∷ 0 ∷ 0 ∷ []) (holding 0 1)
     ∷ line freshRecord (gapped 12 ∷ []) 8 [] benchMemory freshRecord
+    -- [4] "refused 4 at 12": four writes stand before it, and none is carried out
+    ∷ record { start = freshRecord; datagrams = fifthDiffers ∷ []; given = refusedAt 4 12; words = []; memory = benchMemory; tags = freshRecord }
     ∷ []
 
 -- every marked line holds

@@ -56,6 +56,7 @@ fn rule(tags: TagRecord, byte0: u32) -> Verdict
     }
     Verdict::Refused(Refusal {
         number: OUT_OF_STEP,
+        at: 0,
     })
 }
 
@@ -82,10 +83,16 @@ pub fn verdict_of(
     ensures { λ r. ⌜ r ≡ verdictOf memory stored output tags (now (datagram .entry)) ⌝ }
 {
     if !tags::lent_ok(memory, output) {
-        return Verdict::Refused(Refusal { number: LENT });
+        return Verdict::Refused(Refusal {
+            number: LENT,
+            at: 0,
+        });
     }
     if !tags::kept_ok(stored, tags) {
-        return Verdict::Refused(Refusal { number: LENT });
+        return Verdict::Refused(Refusal {
+            number: LENT,
+            at: 0,
+        });
     }
     judge(tags, datagram)
 }
@@ -120,9 +127,9 @@ fn refusal_of(verdict: Verdict) -> Refusal
 {
     match verdict {
         Verdict::Refused(refusal) => refusal,
-        Verdict::New => Refusal { number: 0 },
-        Verdict::Repeat => Refusal { number: 0 },
-        Verdict::Discovery => Refusal { number: 0 },
+        Verdict::New => Refusal { number: 0, at: 0 },
+        Verdict::Repeat => Refusal { number: 0, at: 0 },
+        Verdict::Discovery => Refusal { number: 0, at: 0 },
     }
 }
 
@@ -198,7 +205,7 @@ fn act(
         keep,
     );
     Served {
-        refusal: Refusal { number: 0 },
+        refusal: Refusal { number: 0, at: 0 },
         sent: 4 * n,
         tags: record_after(tags, byte0, n, keep),
     }

@@ -121,7 +121,7 @@ module _ (c : Controller) (b : List ℕ) (h : Sound c) (l : Lendable b) where
   refused : (x : List ℕ) (n : Refusal) → Finds x → read x ≡ Wrong n → Quietly x (serving c b x)
   refused x n f e =
       subst (Quietly x) (sym (serving-is c b h l x (Refused n) (ap (judged (c .tags)) e)))
-      (kept-same c h, λ y q. let z : eqb (n .number) 0 ≡ false = ne-eqb (n .number) 0 (λ i. absurd (omega (arith, refusal-range x (f .bytes) (n .number) e .0))) in nothing (rw z at q))
+      (kept-same c h, λ y q. let z : eqb (n .number) 0 ≡ false = ne-eqb (n .number) 0 (λ i. absurd (omega (arith, refusal-range x (f .bytes) n e .0))) in nothing (rw z at q))
     where
       nothing : {y : List ℕ} → none ≡ some y → Strange y
       nothing q = let i : _≡_ {A = ℕ} 0 1 = cc in absurd (omega arith)

@@ -18,7 +18,7 @@ use Rattle.completer.specs.Carrying.{asked}
 use Rattle.completer.specs.Tags.{repeats, expected, markOf, lentOk, heldOk, recordOk, keptOk}
 use Rattle.completer.specs.Serving.{ruleOf, verdictOf, answerBy, after}
 use Rattle.initiator.specs.Outcome.{judgedBy, endingAt, dataAt}
-use Rattle.initiator.specs.Sender.{asksAs, offerFault, sendFault, offerOf, sendOf, takeOf}
+use Rattle.initiator.specs.Sender.{asksAs, askFault, offerFault, sendFault, offerOf, sendOf, takeOf}
 use Rattle.once.specs.World.{start}
 use Rattle.exchange.specs.Outcomes.{each, told}
 use Rattle.exchange.specs.Ends.{Controller, ends}
@@ -46,7 +46,7 @@ abbrev before : Controller
 before = record { memory = 7 ∷ []; stored = replicate limit 9; tags = morning controller loader night .controller .tags }
 
 pub played : Played
-unfolding wordsOf bytesOf put putWords byteOf bitOf ofBytes merged kindNo byte0From headerFrom headOf patternOk faultOf stepOn addressFrom commandOf commandsFrom replies ended lengthOk read statusNo answerByte answerFault seenOf lookOn answersFrom judge answeredWords answerWords outside fetches storesBehind stores moves afterMoves memoryAfter answerOf answers answerTo wordsTo asked repeats expected markOf lentOk heldOk recordOk keptOk ruleOf verdictOf answerBy after discoveryBytes judgedBy endingAt dataAt asksAs offerFault sendFault offerOf sendOf takeOf each told
+unfolding wordsOf bytesOf put putWords byteOf bitOf ofBytes merged kindNo byte0From headerFrom headOf patternOk faultOf stepOn addressFrom commandOf commandsFrom replies ended lengthOk read statusNo answerByte answerFault seenOf lookOn answersFrom judge answeredWords answerWords outside fetches storesBehind stores moves afterMoves memoryAfter answerOf answers answerTo wordsTo asked repeats expected markOf lentOk heldOk recordOk keptOk ruleOf verdictOf answerBy after discoveryBytes judgedBy endingAt dataAt asksAs askFault offerFault sendFault offerOf sendOf takeOf each told
 played =
     record {
       begins = begun;

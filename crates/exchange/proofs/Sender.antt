@@ -17,7 +17,7 @@ use Rattle.message.proofs.Laws.Going.{read-first}
 use Rattle.initiator.specs.declared.sender.Sender.{Sender}
 use Rattle.initiator.specs.declared.sender.Moved.{Moved}
 use Rattle.initiator.specs.Outcome.{judgedBy}
-use Rattle.initiator.specs.Sender.{asksAs, offerFault, sendFault, offerOf, sendOf, takenBy, takeOf}
+use Rattle.initiator.specs.Sender.{asksAs, askFault, offerFault, sendFault, offerOf, sendOf, takenBy, takeOf}
 use Rattle.initiator.proofs.Laws.Sending.{asks-wrong, asks-discovery, asks-tag}
 use Rattle.initiator.proofs.Laws.Promised.{take-judged}
 use Rattle.once.specs.Tags.{Waits, Still, Turned, Ended}
@@ -60,39 +60,39 @@ waiting-none false m e = refl
 -- the calls by their checks
 module _ (s : Sender) (m : List ℕ) where
   offer-fine : s .next < 16 → s .waits ≡ false → asksAs (s .next) (read m) ≡ true → offerOf s m ≡ record { refusal = refusal 0; sender = record { next = s .next; waits = true } }
-  unfolding offerOf offerFault
+  unfolding offerOf offerFault askFault
   offer-fine n w a = rw (lt-ltb (s .next) 16 n, w, a)
 
   offer-full : s .next < 16 → s .waits ≡ true → offerOf s m ≡ record { refusal = refusal 36; sender = s }
   unfolding offerOf offerFault
   offer-full n w = rw (lt-ltb (s .next) 16 n, w)
 
-  send-fine : s .next < 16 → s .waits ≡ true → asksAs (s .next) (read m) ≡ true → sendFault s m ≡ 0
-  unfolding sendFault
+  send-fine : s .next < 16 → s .waits ≡ true → asksAs (s .next) (read m) ≡ true → sendFault s m .number ≡ 0
+  unfolding sendFault askFault
   send-fine n w a = rw (lt-ltb (s .next) 16 n, w, a)
 
-  sends-all : sendFault s m ≡ 0 → sendOf s m ≡ m
+  sends-all : sendFault s m .number ≡ 0 → sendOf s m ≡ m
   unfolding sendOf
-  sends-all e = rw e
+  sends-all e = rw (eq-eqb _ _ e)
 
   -- 30, or 37 before it
-  idle-fault : s .waits ≡ false → eqb (sendFault s m) 0 ≡ false
+  idle-fault : s .waits ≡ false → eqb (sendFault s m .number) 0 ≡ false
   unfolding sendFault
   idle-fault w = rw w (go (ltb (s .next) 16))
     where
-      go : (b : Bool) → eqb (cond b 30 37) 0 ≡ false
+      go : (b : Bool) → eqb (cond b (refusal 30) (refusal 37) .number) 0 ≡ false
       go true = refl
       go false = refl
 
-  sends-none : eqb (sendFault s m) 0 ≡ false → sendOf s m ≡ []
+  sends-none : eqb (sendFault s m .number) 0 ≡ false → sendOf s m ≡ []
   unfolding sendOf
   sends-none e = rw e
 
-  take-idle : (a : List ℕ) → eqb (sendFault s m) 0 ≡ false → takeOf s m a ≡ record { refusal = refusal (sendFault s m); sender = s }
+  take-idle : (a : List ℕ) → eqb (sendFault s m .number) 0 ≡ false → takeOf s m a ≡ record { refusal = sendFault s m; sender = s }
   unfolding takeOf
   take-idle a e = rw e
 
-  module _ (a : List ℕ) (e : sendFault s m ≡ 0) where
+  module _ (a : List ℕ) (e : sendFault s m .number ≡ 0) where
     take-fine : (items : List Answered) → judgedBy (read m) a ≡ Means items → takeOf s m a ≡ record { refusal = refusal 0; sender = record { next = (s .next + 1) % 16; waits = false } }
     take-fine items g = take-judged s m a e ∙ ap (takenBy s) g
 
@@ -126,7 +126,7 @@ module _ {s : Loader} {d : List ℕ} (w : Waits ends terms sight s d) where
   small : s .sender .next < 16
   small = tag-small d (w .tag)
 
-  fine : sendFault (s .sender) (s .message) ≡ 0
+  fine : sendFault (s .sender) (s .message) .number ≡ 0
   fine = rw lent (send-fine (s .sender) d small on (asks-true (s .sender .next) (w .plain) (w .tag)))
 
   -- an offer while one waits is refused

@@ -18,7 +18,7 @@ use Rattle.completer.specs.Carrying.{asked}
 use Rattle.completer.specs.Tags.{repeats, expected, markOf, lentOk, heldOk, recordOk, keptOk}
 use Rattle.completer.specs.Serving.{ruleOf, verdictOf, answerBy, after}
 use Rattle.initiator.specs.Outcome.{judgedBy, endingAt, dataAt}
-use Rattle.initiator.specs.Sender.{asksAs, offerFault, sendFault, offerOf, sendOf, takeOf}
+use Rattle.initiator.specs.Sender.{asksAs, askFault, offerFault, sendFault, offerOf, sendOf, takeOf}
 use Rattle.exchange.specs.Outcomes.{each, told}
 use Rattle.once.specs.World.{World, finished, start}
 use Rattle.once.specs.Promise.{made}
@@ -41,7 +41,7 @@ broken m w n o f unlike s = unlike (ap (λ l. getD l 0 0) (s .memory) ∙ ap (λ
 -- With 15 made 16 the first of sixteen messages is carried out again. With 16 made 17 the seventeenth is finished by the answer to the
 -- first, and was never carried out.
 pub sharp : Sharp
-unfolding wordsOf bytesOf put putWords byteOf bitOf ofBytes merged kindNo byte0From headerFrom headOf patternOk faultOf stepOn addressFrom commandOf commandsFrom replies ended lengthOk read statusNo answerByte answerFault seenOf lookOn answersFrom judge answeredWords answerWords outside fetches storesBehind stores moves afterMoves memoryAfter answerOf answers answerTo wordsTo asked repeats expected markOf lentOk heldOk recordOk keptOk ruleOf verdictOf answerBy after discoveryBytes judgedBy endingAt dataAt asksAs offerFault sendFault offerOf sendOf takeOf each told
+unfolding wordsOf bytesOf put putWords byteOf bitOf ofBytes merged kindNo byte0From headerFrom headOf patternOk faultOf stepOn addressFrom commandOf commandsFrom replies ended lengthOk read statusNo answerByte answerFault seenOf lookOn answersFrom judge answeredWords answerWords outside fetches storesBehind stores moves afterMoves memoryAfter answerOf answers answerTo wordsTo asked repeats expected markOf lentOk heldOk recordOk keptOk ruleOf verdictOf answerBy after discoveryBytes judgedBy endingAt dataAt asksAs askFault offerFault sendFault offerOf sendOf takeOf each told
 sharp = (
   (
     always-so laterRequests (start ends controller loader) lateRequest refl,

@@ -6,6 +6,7 @@ use mathlib.Core.List.{List, [], _∷_}
 use lib.ListN.{replicate}
 use Rattle.word.specs.Words.{bytesOf}
 use Rattle.message.specs.Limits.{limitBytes}
+use Rattle.message.specs.Walk.{refusal}
 use Rattle.message.specs.Request.{All}
 use Rattle.message.specs.Examples.{gappedWords, gapped}
 use Rattle.initiator.specs.declared.building.Building.{Building}
@@ -37,7 +38,7 @@ benchAddedTo l = addedTo benchOut benchBegun (l .asked) (l .payload)
 
 -- the line holds
 pub record Right (l : Line) : Type 0 where
-  pub number : benchAdded l .refusal .number ≡ l .number
+  pub refused : benchAdded l .refusal ≡ refusal (l .number)
   pub words : sent (closed (benchAddedTo l) (benchAdded l .building) .building) (closedTo (benchAddedTo l) (benchAdded l .building)) ≡ bytesOf (l .words)
 
 -- asked for: the write that the controller's lines have, enables 5 and A

@@ -11,7 +11,9 @@ use Rattle.message.specs.declared.answer.Status.{Status}
 use Rattle.message.specs.declared.answer.Status.the-variants.{Ok, Timeout, Error}
 use Rattle.message.specs.declared.refusal.Refusal.{Refusal}
 use Rattle.message.specs.Header.{kindOf, discoveryOf, countOf, lastOf}
-use Rattle.message.specs.Walk.{refusal}
+use Rattle.message.specs.declared.walk.Walked.{Walked}
+use Rattle.message.specs.declared.walk.Walked.the-variants.{WellFormed, Malformed}
+use Rattle.message.specs.Walk.{refusedAt, refusal}
 use Rattle.message.specs.Request.{Request, Reading, Wrong, Means, refusalIn, read}
 use Rattle.message.specs.declared.answer.Look.{Look}
 use Rattle.message.specs.declared.answer.Look.the-variants.{Item, Bad}
@@ -22,9 +24,10 @@ use Rattle.initiator.specs.declared.outcome.Ending.the-variants.{Absent,
 use Rattle.initiator.specs.declared.outcome.Outcome.{Outcome}
 use Rattle.initiator.specs.declared.outcome.Span.{Span}
 
--- "31: request would be refused 2 to 10, has the discovery bit" (its tag clause aside); then 32 to 35
+-- "31: request would be refused 2 to 10, has the discovery bit" (its tag clause aside), "and gives the index in the request"; then 32
+-- to 35
 unfoldable pub judgedBy : Reading Request → List ℕ → Reading (List Answered)
-judgedBy (Wrong r) answer = Wrong (refusal 31)
+judgedBy (Wrong r) answer = Wrong (refusedAt 31 (r .at))
 judgedBy (Means r) answer = cond (discoveryOf (r .byte0)) (Wrong (refusal 31)) (judge r answer)
 
 -- how command k ended, counted from 0
@@ -117,6 +120,11 @@ abbrev pub badOf : Look → Refusal
 badOf (Item s) = refusal 0
 badOf (Bad r) = r
 
+-- 31 for a request that the walk refused
+abbrev pub malformedBy : Walked → Refusal
+malformedBy (WellFormed n) = refusal 31
+malformedBy (Malformed r) = refusedAt 31 (r .at)
+
 -- what was told so far, with the answer whose header stands at word `at`
 unfoldable pub withItem : Outcome → ℕ → Kind → ℕ → Status → ℕ → Outcome
 withItem told k kind at status count =
@@ -137,5 +145,5 @@ pub record Ready (request : List ℕ) (byte0 : ℕ) : Type 0 where
 
 -- the answers to an accepted request's commands
 abbrev pub answersTo : Reading Request → List ℕ → Reading (List Answered)
-answersTo (Wrong r) ws = Wrong (refusal 31)
-answersTo (Means r) ws = answersFrom (r .byte0) (r .commands) ws
+answersTo (Wrong r) ws = Wrong (refusedAt 31 (r .at))
+answersTo (Means r) ws = answersFrom (r .byte0) 0 (r .commands) ws

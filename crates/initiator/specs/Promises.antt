@@ -38,4 +38,4 @@ AcceptedIs s message answer = takeOf s message answer .refusal .number ≡ 0 →
 
 -- acceptance depends on request and answer alone: whichever sender the message waits at
 abbrev pub Alone : Sender → Sender → List ℕ → List ℕ → Type 0
-Alone s t message answer = sendFault s message ≡ 0 → sendFault t message ≡ 0 → takeOf s message answer .refusal ≡ takeOf t message answer .refusal
+Alone s t message answer = sendFault s message .number ≡ 0 → sendFault t message .number ≡ 0 → takeOf s message answer .refusal ≡ takeOf t message answer .refusal

@@ -9,8 +9,8 @@ use Rattle.message.specs.declared.answer.Status.the-variants.{Ok, Timeout, Erro
 use Rattle.message.specs.declared.refusal.Refusal.{Refusal}
 use Rattle.message.specs.declared.header.Kind.the-variants.{Nop}
 use Rattle.message.specs.Header.{tagOf, discoveryOf, byte0From}
-use Rattle.message.specs.Walk.{refusal, unless}
-use Rattle.message.specs.Request.{Command, Request, Reading, Wrong, Means, read}
+use Rattle.message.specs.Walk.{refusedAt, refusal, unless}
+use Rattle.message.specs.Request.{Command, Request, Reading, Wrong, Means, refusalIn, read}
 use Rattle.message.specs.Answer.{Answered, judge}
 use Rattle.message.specs.Discovery.{discoveryData}
 use Rattle.initiator.specs.declared.sender.Sender.{Sender}
@@ -26,31 +26,35 @@ unfoldable pub asksAs : ℕ → Reading Request → Bool
 asksAs next (Wrong r) = false
 asksAs next (Means r) = cond (discoveryOf (r .byte0)) false (eqb (tagOf (r .byte0)) next)
 
+-- "31 .. gives the index in the request": that of the refusal which the request would get; 0 for the discovery bit and the tag
+unfoldable pub askFault : ℕ → Reading Request → Refusal
+askFault next p = unless (asksAs next p) (refusedAt 31 (refusalIn p .at)) (refusal 0)
+
 -- offering: 37, 36, 31
-unfoldable pub offerFault : Sender → List ℕ → ℕ
+unfoldable pub offerFault : Sender → List ℕ → Refusal
 offerFault s message =
-    unless (ltb (s .next) 16) 37
-    (unless (not (s .waits)) 36
-    (unless (asksAs (s .next) (read message)) 31 0))
+    unless (ltb (s .next) 16) (refusal 37)
+    (unless (not (s .waits)) (refusal 36)
+    (askFault (s .next) (read message)))
 
 -- sending, and taking before the answer is looked at: 37, 30, 31
-unfoldable pub sendFault : Sender → List ℕ → ℕ
+unfoldable pub sendFault : Sender → List ℕ → Refusal
 sendFault s message =
-    unless (ltb (s .next) 16) 37
-    (unless (s .waits) 30
-    (unless (asksAs (s .next) (read message)) 31 0))
+    unless (ltb (s .next) 16) (refusal 37)
+    (unless (s .waits) (refusal 30)
+    (askFault (s .next) (read message)))
 
 -- an accepted offer: the message waits; "Refusals .. sender unchanged", and number 0 is none
 unfoldable pub offerOf : Sender → List ℕ → Moved
 offerOf s message =
     record {
-      refusal = refusal (offerFault s message);
-      sender = cond (eqb (offerFault s message) 0) (record { next = s .next; waits = true }) s;
+      refusal = offerFault s message;
+      sender = cond (eqb (offerFault s message .number) 0) (record { next = s .next; waits = true }) s;
     }
 
 -- "sending hands back that message's own bytes"; none where it is refused
 unfoldable pub sendOf : Sender → List ℕ → List ℕ
-sendOf s message = cond (eqb (sendFault s message) 0) message []
+sendOf s message = cond (eqb (sendFault s message .number) 0) message []
 
 -- "An accepted answer ends it, also when a command failed; .. and the next tag is one more, modulo 16"
 abbrev pub takenBy : Sender → Reading (List Answered) → Moved
@@ -60,7 +64,7 @@ takenBy s (Means items) = record { refusal = refusal 0; sender = record { next =
 -- taking: 37, 30, 31, then 32 to 35
 unfoldable pub takeOf : Sender → List ℕ → List ℕ → Moved
 takeOf s message answer =
-    cond (eqb (sendFault s message) 0) (takenBy s (judgedBy (read message) answer)) (record { refusal = refusal (sendFault s message); sender = s })
+    cond (eqb (sendFault s message .number) 0) (takenBy s (judgedBy (read message) answer)) (record { refusal = sendFault s message; sender = s })
 
 -- "the fixed discovery": a NOP of two words, the most bytes of a message and 0
 unfoldable pub discoveryByte : ℕ

@@ -4,7 +4,7 @@ use mathlib.Core.Path.{_≡_}
 use mathlib.Core.Bool.{Bool, cond}
 use mathlib.Core.List.{List, [], _∷_, _++_}
 use lib.ListN.{length, take, drop}
-use Rattle.message.specs.Walk.{refusal}
+use Rattle.message.specs.Walk.{refusedAt, refusal}
 use Rattle.message.specs.Request.{Command, Request, Wrong, Means, read, written, replies, none}
 use Rattle.initiator.specs.declared.building.Building.{Building}
 use Rattle.initiator.specs.declared.asked.Asked.{Asked}
@@ -39,8 +39,8 @@ BuiltIsRead =
     (start : List ℕ) (cs : List Command) (b : Building) (out : List ℕ) → Adding start cs b out → closed out b .refusal ≡ refusal 0
     → Holds start (record { byte0 = byte0By b; commands = cs }) (closed out b .building) (closedTo out b)
 
--- not closed, it is refused: 2 with nothing added, else 3
+-- not closed, it is refused: 2 with nothing added, else 3 behind its words
 abbrev pub OpenIsRefused : Type 0
 OpenIsRefused =
     (start : List ℕ) (cs : List Command) (b : Building) (out : List ℕ) → Adding start cs b out
-    → read (sent b out) ≡ Wrong (refusal (cond (none cs) 2 3))
+    → read (sent b out) ≡ Wrong (cond (none cs) (refusal 2) (refusedAt 3 (b .words)))

@@ -34,7 +34,7 @@ fn given(number: u32, building: Building) -> Built
     ensures { λ r. ⌜ r ≡ gives number building ⌝ }
 {
     Built {
-        refusal: Refusal { number },
+        refusal: Refusal { number, at: 0 },
         building,
     }
 }

@@ -7,7 +7,7 @@ ghost use Rattle.word.specs.Words.{wordsOf};
 ghost use Rattle.message.specs.Limits.{limit, limitBytes};
 ghost use Rattle.message.specs.Header.{kindOf, countOf, bodyWords};
 ghost use Rattle.message.specs.Request.{read};
-ghost use Rattle.initiator.specs.Outcome.{refusedWith, badOf, spanOf, partOf, withItem, lookBeside, Ready, toldOf, answersTo, judgedBy, countIn, endingIn, partIn, outcomeOf, ReadData};
+ghost use Rattle.initiator.specs.Outcome.{refusedWith, badOf, malformedBy, spanOf, partOf, withItem, lookBeside, Ready, toldOf, answersTo, judgedBy, countIn, endingIn, partIn, outcomeOf, ReadData};
 use crate::refusals;
 use message::answer;
 use message::answer::Look;
@@ -52,8 +52,24 @@ pub fn refusal_of(look: Look) -> Refusal
     ensures { λ r. ⌜ r ≡ badOf look ⌝ }
 {
     match look {
-        Look::Item(_) => Refusal { number: 0 },
+        Look::Item(_) => Refusal { number: 0, at: 0 },
         Look::Bad(refusal) => refusal,
+    }
+}
+
+// 31 for a request that the walk refused, at the header that it refused.
+pub fn malformed(walked: Walked) -> Refusal
+    ensures { λ r. ⌜ r ≡ malformedBy walked ⌝ }
+{
+    match walked {
+        Walked::WellFormed(_) => Refusal {
+            number: refusals::REQUEST,
+            at: 0,
+        },
+        Walked::Malformed(refusal) => Refusal {
+            number: refusals::REQUEST,
+            at: refusal.at,
+        },
     }
 }
 
@@ -121,7 +137,7 @@ fn with_item(told: Outcome, k: usize, byte0: u32, at: usize, seen: Seen) -> Outc
 
 // What stands at word `back` of the answer, beside the command whose header stands at word `at` of the request.
 fn look_beside(request: &[u8], answer: &[u8], byte0: u32, at: usize, back: usize) -> Look
-    requires { ⌜ 4 * at + 4 ≤ length (now request) ⌝ }
+    requires { ⌜ (4 * at + 4 ≤ length (now request)) × (back ≤ limit) ⌝ }
     ensures { λ r. ⌜ r ≡ lookBeside (wordsOf (now (request .entry))) (wordsOf (now (answer .entry))) byte0 at back ⌝ }
 {
     let h = word::word_at(request, at);
@@ -141,7 +157,7 @@ fn look_through(request: &[u8], answer: &[u8], byte0: u32, k: usize) -> Outcome
     requires { ⌜ Ready (now request) byte0 × (length (now answer) ≤ limitBytes) ⌝ }
     ensures { λ r. ⌜ r ≡ toldOf (kindOf byte0) k (answersTo (read (now (request .entry))) (wordsOf (now (answer .entry)))) ⌝ }
 {
-    let mut told = refused(Refusal { number: 0 });
+    let mut told = refused(Refusal { number: 0, at: 0 });
     let mut at: usize = 0;
     let mut back: usize = 0;
     loop {
@@ -164,24 +180,25 @@ pub fn told(request: &[u8], answer: &[u8], k: usize) -> Outcome
 {
     let walked = message::walk::walk(request);
     let Walked::WellFormed(_) = walked else {
-        return refused(Refusal {
-            number: refusals::REQUEST,
-        });
+        return refused(malformed(walked));
     };
     let byte0 = word::wide(request[0]);
     if header::discovery(byte0) {
         return refused(Refusal {
             number: refusals::REQUEST,
+            at: 0,
         });
     }
     if !message::walk::length_ok(answer.len()) {
         return refused(Refusal {
             number: Refusal::ANSWER_LENGTH,
+            at: 0,
         });
     }
     if word::wide(answer[0]) != answer::answer_byte(byte0) {
         return refused(Refusal {
             number: Refusal::ANSWER_BYTE0,
+            at: 0,
         });
     }
     look_through(request, answer, byte0, k)

@@ -2,9 +2,8 @@
 // answer ends it. Every call takes any record, any message, any answer, and refuses by number.
 ghost use mathlib.Core.Path.{_≡_};
 ghost use Prim.Native.Nat.{_<_};
-ghost use Rattle.message.specs.Walk.{refusal};
 ghost use Rattle.message.specs.Request.{read};
-ghost use Rattle.initiator.specs.Sender.{freshSender, asksAs, offerFault, sendFault, offerOf, sendOf, takeOf, spoiled, wordOk, nextAfter, startedAt, startOf};
+ghost use Rattle.initiator.specs.Sender.{freshSender, askFault, offerFault, sendFault, offerOf, sendOf, takeOf, spoiled, wordOk, nextAfter, startedAt, startOf};
 use crate::outcome;
 use crate::refusals;
 use message::answer;
@@ -48,11 +47,13 @@ impl Sender {
         if !message::walk::length_ok(answer.len()) {
             return spoilt(Refusal {
                 number: Refusal::ANSWER_LENGTH,
+                at: 0,
             });
         }
         if word::wide(answer[0]) != answer::answer_byte(byte0) {
             return spoilt(Refusal {
                 number: Refusal::ANSWER_BYTE0,
+                at: 0,
             });
         }
         let look = answer::look_at(byte0, 2, true, answer, 0);
@@ -64,9 +65,11 @@ impl Sender {
             Status::Ok => started(word::word_at(answer, 2)),
             Status::Timeout => spoilt(Refusal {
                 number: refusals::DISCOVERY,
+                at: 0,
             }),
             Status::Error => spoilt(Refusal {
                 number: refusals::DISCOVERY,
+                at: 0,
             }),
         }
     }
@@ -113,10 +116,11 @@ fn started(w: u32) -> Moved
     if !word_ok(w) {
         return spoilt(Refusal {
             number: refusals::DISCOVERY,
+            at: 0,
         });
     }
     Moved {
-        refusal: Refusal { number: 0 },
+        refusal: Refusal { number: 0, at: 0 },
         sender: Sender {
             next: next_after(w),
             waits: false,
@@ -124,66 +128,60 @@ fn started(w: u32) -> Moved
     }
 }
 
-// Whether a message may be offered or sent under this next tag: well-formed, no discovery, of this tag.
-fn asks_as(next: u32, message: &[u8]) -> bool
-    ensures { λ r. ⌜ r ≡ asksAs next (read (now (message .entry))) ⌝ }
+// The refusal of offering or sending a message under this next tag, or none (number 0): 31 for a malformed one, at its fault, for a
+// discovery, and for another tag.
+fn ask_refusal(next: u32, message: &[u8]) -> Refusal
+    ensures { λ r. ⌜ r ≡ askFault next (read (now (message .entry))) ⌝ }
 {
     let walked = message::walk::walk(message);
     let Walked::WellFormed(_) = walked else {
-        return false;
+        return outcome::malformed(walked);
     };
     let byte0 = word::wide(message[0]);
     if header::discovery(byte0) {
-        return false;
+        return Refusal {
+            number: refusals::REQUEST,
+            at: 0,
+        };
     }
-    header::tag(byte0) == next
+    if header::tag(byte0) != next {
+        return Refusal {
+            number: refusals::REQUEST,
+            at: 0,
+        };
+    }
+    Refusal { number: 0, at: 0 }
 }
 
-// The refusal of an offer, or 0.
-fn offer_fault(sender: Sender, message: &[u8]) -> u32
+// The refusal of an offer: 37, 36, 31, or none (number 0).
+fn offer_refusal(sender: Sender, message: &[u8]) -> Refusal
     ensures { λ r. ⌜ r ≡ offerFault sender (now (message .entry)) ⌝ }
 {
     if 16 <= sender.next {
-        return refusals::RECORD;
+        return Refusal {
+            number: refusals::RECORD,
+            at: 0,
+        };
     }
     if sender.waits {
-        return refusals::ONE_WAITS;
+        return Refusal {
+            number: refusals::ONE_WAITS,
+            at: 0,
+        };
     }
-    if !asks_as(sender.next, message) {
-        return refusals::REQUEST;
-    }
-    0
-}
-
-// The refusal of a send, or 0; also of taking an answer, before the answer is looked at.
-fn send_fault(sender: Sender, message: &[u8]) -> u32
-    ensures { λ r. ⌜ r ≡ sendFault sender (now (message .entry)) ⌝ }
-{
-    if 16 <= sender.next {
-        return refusals::RECORD;
-    }
-    if !sender.waits {
-        return refusals::NONE_WAITS;
-    }
-    if !asks_as(sender.next, message) {
-        return refusals::REQUEST;
-    }
-    0
+    ask_refusal(sender.next, message)
 }
 
 // Offers a message: 37, 36, 31. Accepted, it waits; refused, the sender is unchanged.
 pub fn offer(sender: Sender, message: &[u8]) -> Moved
     ensures { λ r. ⌜ r ≡ offerOf sender (now (message .entry)) ⌝ }
 {
-    let number = offer_fault(sender, message);
-    if number != 0 {
-        return Moved {
-            refusal: Refusal { number },
-            sender,
-        };
+    let refusal = offer_refusal(sender, message);
+    if refusal.number != 0 {
+        return Moved { refusal, sender };
     }
     Moved {
-        refusal: Refusal { number: 0 },
+        refusal,
         sender: Sender {
             next: sender.next,
             waits: true,
@@ -191,20 +189,31 @@ pub fn offer(sender: Sender, message: &[u8]) -> Moved
     }
 }
 
-// The refusal of sending this message: 37, 30, 31, or none (number 0).
+// The refusal of sending this message: 37, 30, 31, or none (number 0); also of taking an answer, before the answer is looked at.
 pub fn send_refusal(sender: Sender, message: &[u8]) -> Refusal
-    ensures { λ r. ⌜ r ≡ refusal (sendFault sender (now (message .entry))) ⌝ }
+    ensures { λ r. ⌜ r ≡ sendFault sender (now (message .entry)) ⌝ }
 {
-    let number = send_fault(sender, message);
-    Refusal { number }
+    if 16 <= sender.next {
+        return Refusal {
+            number: refusals::RECORD,
+            at: 0,
+        };
+    }
+    if !sender.waits {
+        return Refusal {
+            number: refusals::NONE_WAITS,
+            at: 0,
+        };
+    }
+    ask_refusal(sender.next, message)
 }
 
 // The bytes to send: the lent message's own, or an empty part where sending it is refused.
 pub fn send<'a>(sender: Sender, message: &'a [u8]) -> &'a [u8]
     ensures { λ r. ⌜ now r ≡ sendOf sender (now (message .entry)) ⌝ }
 {
-    let number = send_fault(sender, message);
-    if number != 0 {
+    let refusal = send_refusal(sender, message);
+    if refusal.number != 0 {
         return &message[..0];
     }
     message
@@ -215,12 +224,9 @@ pub fn send<'a>(sender: Sender, message: &'a [u8]) -> &'a [u8]
 pub fn take(sender: Sender, message: &[u8], answer: &[u8]) -> Moved
     ensures { λ r. ⌜ r ≡ takeOf sender (now (message .entry)) (now (answer .entry)) ⌝ }
 {
-    let number = send_fault(sender, message);
-    if number != 0 {
-        return Moved {
-            refusal: Refusal { number },
-            sender,
-        };
+    let refusal = send_refusal(sender, message);
+    if refusal.number != 0 {
+        return Moved { refusal, sender };
     }
     let told = outcome::told(message, answer, 0);
     let refusal = told.refusal;

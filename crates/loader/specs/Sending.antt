@@ -2,7 +2,6 @@
 use mathlib.Core.List.{List}
 use Prim.Native.Nat.{ℕ}
 use lib.ListN.{length}
-use Rattle.message.specs.Walk.{refusal}
 use Rattle.message.specs.Discovery.{discoveryBytes}
 use Rattle.initiator.specs.declared.sender.Sender.{Sender}
 use Rattle.initiator.specs.Sender.{sendFault, sendOf}
@@ -11,7 +10,7 @@ use Rattle.loader.specs.declared.sending.Discovery.{Discovery}
 
 -- "sending hands back that message's own bytes": the refusal, and the length of what is handed back
 unfoldable pub sendingOf : Sender → List ℕ → Sending
-sendingOf s message = record { refusal = refusal (sendFault s message); length = length (sendOf s message) }
+sendingOf s message = record { refusal = sendFault s message; length = length (sendOf s message) }
 
 -- "the fixed discovery"
 abbrev pub fixedDiscovery : Discovery

@@ -10,13 +10,13 @@ use initiator::building::Building;
 use message::refusal::Refusal;
 use message::walk::Walked;
 
-// The refusal, 2 to 10, of a request by any controller; number 0 where it is well-formed.
+// The refusal, 2 to 10, of a request by any controller, at the header that is refused; number 0 where it is well-formed.
 #[no_mangle]
 pub extern "C" fn charkhavo_refusal(request: &[u8]) -> Refusal
     ensures { λ r. ⌜ r ≡ refusalIn (read (now (request .entry))) ⌝ }
 {
     match message::walk::walk(request) {
-        Walked::WellFormed(_) => Refusal { number: 0 },
+        Walked::WellFormed(_) => Refusal { number: 0, at: 0 },
         Walked::Malformed(refusal) => refusal,
     }
 }

@@ -10,5 +10,6 @@ pub mod Pieces
 pub mod Answers
 pub mod Judged
 pub mod Looking
+pub mod Judging
 pub mod Answering
 pub mod Worked

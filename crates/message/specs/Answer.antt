@@ -13,7 +13,7 @@ use Rattle.message.specs.declared.answer.Seen.{Seen}
 use Rattle.message.specs.declared.answer.Look.{Look}
 use Rattle.message.specs.declared.answer.Look.the-variants.{Item, Bad}
 use Rattle.message.specs.Header.{tagOf, kindOf, wideOf, discoveryOf, byte0Of, byte1Of, countOf, reservedOf, lastOf, byte0From, headerFrom, replyWords}
-use Rattle.message.specs.Walk.{refusal, unless, endsOk}
+use Rattle.message.specs.Walk.{refusedAt, refusal, unless, endsOk}
 use Rattle.message.specs.Request.{Command, Request, Reading, Wrong, Means, before, lengthOk, none}
 
 -- "response: 0 OK, 1 Timeout, 2 Error"
@@ -59,17 +59,18 @@ answerFault byte0 count last h left =
     (unless (Bool·beq (lastOf h) (stops (statusNo (byte1Of h)) last)) 35
     (unless (endsOk (lastOf h) (countOf h) left) 35 0))))))
 
--- an answer's header as it was read, or its refusal
+-- an answer's header as it was read
 unfoldable pub seenOf : ℕ → Seen
 seenOf h = record { status = statusNo (byte1Of h); count = countOf h; last = lastOf h }
 
-unfoldable pub lookOn : ℕ → ℕ → Bool → ℕ → ℕ → Look
-lookOn byte0 count last h left =
-    cond (eqb (answerFault byte0 count last h left) 0) (Item (seenOf h)) (Bad (refusal (answerFault byte0 count last h left)))
+-- the same of the header at word `at`, or its refusal
+unfoldable pub lookOn : ℕ → ℕ → Bool → ℕ → ℕ → ℕ → Look
+lookOn byte0 count last at h left =
+    cond (eqb (answerFault byte0 count last h left) 0) (Item (seenOf h)) (Bad (refusedAt (answerFault byte0 count last h left) at))
 
--- the same at word `at` of the words ws; "35 (no word)"
+-- at word `at` of the words ws; "35 (no word)"
 unfoldable pub lookAt : ℕ → ℕ → Bool → List ℕ → ℕ → Look
-lookAt byte0 count last ws at = cond (ltb at (length ws)) (lookOn byte0 count last (getD ws at 0) (length ws - at - 1)) (Bad (refusal 35))
+lookAt byte0 count last ws at = cond (ltb at (length ws)) (lookOn byte0 count last at (getD ws at 0) (length ws - at - 1)) (Bad (refusedAt 35 at))
 
 -- what a look comes to: `rest` follows the header, and `go n` is what follows behind n words of it
 abbrev pub lookTurn : Look → List ℕ → (ℕ → Reading (List Answered)) → Reading (List Answered)
@@ -78,18 +79,18 @@ lookTurn (Item s) rest go =
     cond (s .last) (Means (record { status = s .status; payload = take (s .count) rest } ∷ []))
     (before (record { status = s .status; payload = take (s .count) rest }) (go (s .count)))
 
--- the answers to the commands cs in the words ws
-unfoldable pub answersFrom : ℕ → List Command → List ℕ → Reading (List Answered)
-answersFrom byte0 [] ws = Wrong (refusal 35)
-answersFrom byte0 (c ∷ cs) [] = Wrong (refusal 35)
-answersFrom byte0 (c ∷ cs) (h ∷ rest) =
-    lookTurn (lookOn byte0 (c .count) (none cs) h (length rest)) rest (λ n. answersFrom byte0 cs (drop n rest))
+-- the answers to the commands cs in the words ws, the first of which is word `at` of the answer
+unfoldable pub answersFrom : ℕ → ℕ → List Command → List ℕ → Reading (List Answered)
+answersFrom byte0 at [] ws = Wrong (refusedAt 35 at)
+answersFrom byte0 at (c ∷ cs) [] = Wrong (refusedAt 35 at)
+answersFrom byte0 at (c ∷ cs) (h ∷ rest) =
+    lookTurn (lookOn byte0 (c .count) (none cs) at h (length rest)) rest (λ n. answersFrom byte0 (at + 1 + n) cs (drop n rest))
 
 -- an answer datagram to a request: 32, 33, and at each header 35 (no word), 34, 35
 unfoldable pub judge : Request → List ℕ → Reading (List Answered)
 judge r dg =
     cond (lengthOk (length dg))
-    (cond (eqb (getD dg 0 0) (answerByte (r .byte0))) (answersFrom (r .byte0) (r .commands) (wordsOf dg)) (Wrong (refusal 33)))
+    (cond (eqb (getD dg 0 0) (answerByte (r .byte0))) (answersFrom (r .byte0) 0 (r .commands) (wordsOf dg)) (Wrong (refusal 33)))
     (Wrong (refusal 32))
 
 -- one answer's words, status in byte 1

@@ -1,17 +1,18 @@
--- The refusals in their own words, apart from the walk: what `proofs/Laws/Exactly.antt` shows of `read` and `proofs/Laws/Judged.antt` of
--- `judge`. Assumes nothing.
+-- The refusals in their own words, apart from the walk: what `proofs/Laws/Exactly.antt` shows of `read`, `proofs/Laws/Judged.antt` and
+-- `proofs/Laws/Judging.antt` of `judge`. Assumes nothing.
 use Prim.Native.Nat.{ℕ, suc, _<_, _≤_}
 use mathlib.Core.Path.{_≡_}
 use mathlib.Core.Logic.{_↔_}
-use mathlib.Core.Bool.{true, false}
+use mathlib.Core.Bool.{Bool, true, false}
 use mathlib.Core.List.{List, [], _∷_, _++_}
 use lib.ListN.{length, getD}
 use Rattle.word.specs.Words.{wordsOf, Bytes}
 use Rattle.message.specs.Limits.{limit}
 use Rattle.message.specs.Header.{addressWords}
-use Rattle.message.specs.Walk.{refusal, faultOf}
-use Rattle.message.specs.Answer.{Answered, judge, encodeAnswer, FitsAnswer}
-use Rattle.message.specs.Request.{Command, Request, Reading, Wrong, Means, addressFrom, read, replies, lengthOk, commandWords, written, FitsCommand, All, FitsAsked, Fits}
+use Rattle.message.specs.Walk.{refusedAt, faultOf}
+use Rattle.message.specs.declared.answer.Status.the-variants.{Ok}
+use Rattle.message.specs.Answer.{Answered, answerByte, answerFault, judge, answeredWords, encodeAnswer, FitsAnswered, FitsAnswer}
+use Rattle.message.specs.Request.{Command, Request, Reading, Wrong, Means, addressFrom, read, replies, lengthOk, commandWords, none, written, FitsCommand, All, FitsAsked, Fits}
 
 -- commands that others follow: none of them is LAST
 unfoldable pub openWords : ℕ → List Command → List ℕ
@@ -23,13 +24,14 @@ unfoldable pub faultIn : ℕ → List ℕ → ℕ
 faultIn byte0 [] = 3
 faultIn byte0 (h ∷ rest) = faultOf byte0 h (length rest) (addressFrom (addressWords byte0) rest)
 
--- good commands are followed by a header whose first fault, in the document's order, is n
-pub record FaultAfter (byte0 n : ℕ) (ws : List ℕ) : Type 0 where
+-- good commands are followed by a header, at word `at`, whose first fault, in the document's order, is n
+pub record FaultAfter (byte0 n at : ℕ) (ws : List ℕ) : Type 0 where
   pub good : List Command
   pub fit : All (FitsCommand byte0) good
   pub tail : List ℕ
   pub is : ws ≡ openWords byte0 good ++ tail
   pub fault : faultIn byte0 tail ≡ n
+  pub place : length (openWords byte0 good) ≡ at
 
 -- a request that fits but for its answer
 pub record TooLong (dg : List ℕ) : Type 0 where
@@ -38,12 +40,50 @@ pub record TooLong (dg : List ℕ) : Type 0 where
   pub is : dg ≡ written request
   pub over : limit < replies (request .byte0) (request .commands)
 
--- "given exactly when": for any bytes, each refusal and none of them
+-- "given exactly when": for any bytes, each refusal with its index, and none of them
 pub record Exactly (dg : List ℕ) : Type 0 where
-  pub two : (read dg ≡ Wrong (refusal 2)) ↔ (lengthOk (length dg) ≡ false)
-  pub faults : (n : ℕ) → 3 ≤ n → n ≤ 9 → (read dg ≡ Wrong (refusal n)) ↔ ((lengthOk (length dg) ≡ true) × FaultAfter (getD dg 0 0) n (wordsOf dg))
-  pub ten : (read dg ≡ Wrong (refusal 10)) ↔ TooLong dg
+  pub two : (at : ℕ) → (read dg ≡ Wrong (refusedAt 2 at)) ↔ ((lengthOk (length dg) ≡ false) × (at ≡ 0))
+  pub faults : (n at : ℕ) → 3 ≤ n → n ≤ 9 → (read dg ≡ Wrong (refusedAt n at)) ↔ ((lengthOk (length dg) ≡ true) × FaultAfter (getD dg 0 0) n at (wordsOf dg))
+  pub ten : (at : ℕ) → (read dg ≡ Wrong (refusedAt 10 at)) ↔ (TooLong dg × (at ≡ 0))
   pub fine : (r : Request) → (read dg ≡ Means r) ↔ (Fits r × (dg ≡ written r))
+
+-- OK answers that others follow: none of them is LAST
+unfoldable pub openAnswers : ℕ → List Answered → List ℕ
+openAnswers byte [] = []
+openAnswers byte (a ∷ more) = answeredWords byte false a ++ openAnswers byte more
+
+-- OK answers to some commands, one each
+unfoldable pub AllOk : ℕ → List Command → List Answered → Type 0
+AllOk byte0 [] [] = Unit {0}
+AllOk byte0 [] (a ∷ more) = ⊥
+AllOk byte0 (c ∷ cs) [] = ⊥
+AllOk byte0 (c ∷ cs) (a ∷ more) = (a .status ≡ Ok) × FitsAnswered byte0 c a × AllOk byte0 cs more
+
+-- the first fault where a command's answer should stand: "35 (no word)", else its header's own
+unfoldable pub answerFaultIn : ℕ → Command → Bool → List ℕ → ℕ
+answerFaultIn byte0 c last [] = 35
+answerFaultIn byte0 c last (h ∷ rest) = answerFault byte0 (c .count) last h (length rest)
+
+-- OK answers to the first commands are followed by a header, at word `at`, whose first fault for the next command is n
+pub record AnswerFaultAfter (byte0 n at : ℕ) (cs : List Command) (ws : List ℕ) : Type 0 where
+  pub done : List Command
+  pub next : Command
+  pub behind : List Command
+  pub asked : cs ≡ done ++ next ∷ behind
+  pub good : List Answered
+  pub fit : AllOk byte0 done good
+  pub tail : List ℕ
+  pub is : ws ≡ openAnswers (answerByte byte0) good ++ tail
+  pub fault : answerFaultIn byte0 next (none behind) tail ≡ n
+  pub place : length (openAnswers (answerByte byte0) good) ≡ at
+
+-- the same for the answers to a request: each of 32 to 35 with its index
+pub record RefusesExactly (r : Request) (dg : List ℕ) : Type 0 where
+  pub long : (at : ℕ) → (judge r dg ≡ Wrong (refusedAt 32 at)) ↔ ((lengthOk (length dg) ≡ false) × (at ≡ 0))
+  pub other : (at : ℕ) → (judge r dg ≡ Wrong (refusedAt 33 at)) ↔ ((lengthOk (length dg) ≡ true) × (getD dg 0 0 ≡ answerByte (r .byte0) → ⊥) × (at ≡ 0))
+  pub faults : (n at : ℕ) → 34 ≤ n → n ≤ 35
+      → (judge r dg ≡ Wrong (refusedAt n at))
+      ↔ ((lengthOk (length dg) ≡ true) × (getD dg 0 0 ≡ answerByte (r .byte0)) × AnswerFaultAfter (r .byte0) n at (r .commands) (wordsOf dg))
 
 -- an answer is accepted exactly if it is the encoding of a list that fits the request
 unfoldable pub AcceptsExactly : Request → List ℕ → Type 0

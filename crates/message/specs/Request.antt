@@ -14,7 +14,7 @@ use Rattle.message.specs.declared.walk.Walked.{Walked}
 use Rattle.message.specs.declared.walk.Walked.the-variants.{WellFormed, Malformed}
 use Rattle.message.specs.Limits.{limit, limitBytes}
 use Rattle.message.specs.Header.{kindOf, byte1Of, countOf, headerFrom, addressWords, dataWords, replyWords}
-use Rattle.message.specs.Walk.{refusal, asks, countOk, enablesOk, stepOn}
+use Rattle.message.specs.Walk.{refusedAt, refusal, asks, countOk, enablesOk, stepOn}
 
 -- "Each command is a header, then its address, then its data": byte 1 as it came, count, address as one number, data words
 pub record Command : Type 0 where
@@ -69,18 +69,19 @@ abbrev pub turn : Step → Command → (ℕ → Reading (List Command)) → Read
 turn (Refused r) c go = Wrong r
 turn (Read d) c go = cond (d .last) (Means (c ∷ [])) (before c (go (d .body)))
 
--- "Then the commands are walked": the commands in the words ws, the next header standing behind `skip` of them
-unfoldable pub commandsFrom : ℕ → ℕ → List ℕ → Reading (List Command)
-commandsFrom byte0 skip [] = Wrong (refusal 3)
-commandsFrom byte0 (suc skip) (w ∷ ws) = commandsFrom byte0 skip ws
-commandsFrom byte0 zero (h ∷ rest) =
-    turn (stepOn byte0 h (length rest) (addressFrom (addressWords byte0) rest)) (commandOf byte0 h rest) (λ n. commandsFrom byte0 n rest)
+-- "Then the commands are walked": the commands in the words ws, the next header, word `at` of the message, standing behind `skip` of
+-- them; "3 (no word there)" at the place where it should stand
+unfoldable pub commandsFrom : ℕ → ℕ → ℕ → List ℕ → Reading (List Command)
+commandsFrom byte0 at skip [] = Wrong (refusedAt 3 at)
+commandsFrom byte0 at (suc skip) (w ∷ ws) = commandsFrom byte0 at skip ws
+commandsFrom byte0 at zero (h ∷ rest) =
+    turn (stepOn byte0 at h (length rest) (addressFrom (addressWords byte0) rest)) (commandOf byte0 h rest) (λ n. commandsFrom byte0 (at + 1 + n) n rest)
 
 -- its step at word `at` of the words ws; "3 (no word there)"
 unfoldable pub stepAt : ℕ → List ℕ → ℕ → Step
 stepAt byte0 ws at =
-    cond (ltb at (length ws)) (stepOn byte0 (getD ws at 0) (length ws - at - 1) (addressFrom (addressWords byte0) (drop (at + 1) ws)))
-    (Refused (refusal 3))
+    cond (ltb at (length ws)) (stepOn byte0 at (getD ws at 0) (length ws - at - 1) (addressFrom (addressWords byte0) (drop (at + 1) ws)))
+    (Refused (refusedAt 3 at))
 
 -- the words of "the answer with all commands OK"
 unfoldable pub replies : ℕ → List Command → ℕ
@@ -98,7 +99,7 @@ lengthOk n = cond (eqb n 0) false (cond (eqb (n % 4) 0) (leb n limitBytes) false
 
 -- a datagram: 2, then the walk, then 10
 unfoldable pub read : List ℕ → Reading Request
-read dg = cond (lengthOk (length dg)) (ended (getD dg 0 0) (commandsFrom (getD dg 0 0) 0 (wordsOf dg))) (Wrong (refusal 2))
+read dg = cond (lengthOk (length dg)) (ended (getD dg 0 0) (commandsFrom (getD dg 0 0) 0 0 (wordsOf dg))) (Wrong (refusal 2))
 
 -- what the walk tells at the end of its commands: 10, or the words of the all-OK answer
 unfoldable pub endOf : ℕ → Walked

@@ -11,9 +11,13 @@ use Rattle.message.specs.declared.walk.Step.{Step}
 use Rattle.message.specs.declared.walk.Step.the-variants.{Read, Refused}
 use Rattle.message.specs.Header.{kindOf, byte0Of, byte1Of, firstOf, finalOf, countOf, reservedOf, lastOf, addressWords, bodyWords, headOf}
 
--- a refusal by its number in the table
+-- "refusals .. give the index, from 0, of the header word being looked at": number n of the table, at word `at`
+abbrev pub refusedAt : ℕ → ℕ → Refusal
+refusedAt n at = record { number = n; at = at }
+
+-- "All others .. give 0"
 abbrev pub refusal : ℕ → Refusal
-refusal n = record { number = n }
+refusal n = refusedAt n 0
 
 -- a request's kind: every one but "3 response"
 abbrev pub asks : Kind → Bool
@@ -62,9 +66,9 @@ enablesOk Response count address byte1 = true
 abbrev pub endsOk : Bool → ℕ → ℕ → Bool
 endsOk last body left = cond last (eqb left body) true
 
--- the number n, unless all is well so far: then what the next check says
-abbrev pub unless : Bool → ℕ → ℕ → ℕ
-unless ok n next = cond ok next n
+-- the number or the refusal r, unless all is well so far: then what the next check says
+abbrev pub unless : {A : Type 0} → Bool → A → A → A
+unless ok r next = cond ok next r
 
 -- the first fault, in the document's order, of a header h with `left` words after it and this address, in a message of this byte 0;
 -- 0 where it has none
@@ -79,10 +83,10 @@ faultOf byte0 h left address =
     (unless (leb (bodyWords byte0 (countOf h)) left) 3
     (unless (endsOk (lastOf h) (bodyWords byte0 (countOf h)) left) 9 0)))))))
 
--- the header as it was read, or its refusal
-unfoldable pub stepOn : ℕ → ℕ → ℕ → ℕ → Step
-stepOn byte0 h left address =
-    cond (eqb (faultOf byte0 h left address) 0) (Read (headOf byte0 h)) (Refused (refusal (faultOf byte0 h left address)))
+-- the header at word `at` as it was read, or its refusal
+unfoldable pub stepOn : ℕ → ℕ → ℕ → ℕ → ℕ → Step
+stepOn byte0 at h left address =
+    cond (eqb (faultOf byte0 h left address) 0) (Read (headOf byte0 h)) (Refused (refusedAt (faultOf byte0 h left address) at))
 
 -- the refusal of a step that refused; none is 0
 abbrev pub refusalOf : Step → Refusal

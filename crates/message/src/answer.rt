@@ -1,9 +1,10 @@
 // Answers: what stands at an answer's header, judged against the command that it answers.
 ghost use mathlib.Core.Path.{_≡_};
-ghost use Prim.Native.Nat.{_<_};
+ghost use Prim.Native.Nat.{_<_, _≤_};
 ghost use mathlib.Core.Bool.{Bool·beq};
 ghost use lib.Dec.{ltb, eqb};
 ghost use Rattle.word.specs.Words.{wordsOf};
+ghost use Rattle.message.specs.Limits.{limit};
 ghost use Rattle.message.specs.Header.{countOf, byte1Of, lastOf};
 ghost use Rattle.message.specs.Walk.{endsOk};
 ghost use Rattle.message.specs.Answer.{codeOf, statusNo, answerByte, wanted, stops, answerFault, seenOf, lookOn, lookAt};
@@ -154,13 +155,13 @@ pub fn answer_fault(byte0: u32, count: usize, last: bool, h: u32, left: usize) -
     0
 }
 
-// An answer's header h with `left` words after it.
-pub fn look_on(byte0: u32, count: usize, last: bool, h: u32, left: usize) -> Look
-    ensures { λ r. ⌜ r ≡ lookOn byte0 count last h left ⌝ }
+// An answer's header h, at this place of the answer, with `left` words after it.
+fn look_on(byte0: u32, count: usize, last: bool, place: u32, h: u32, left: usize) -> Look
+    ensures { λ r. ⌜ r ≡ lookOn byte0 count last place h left ⌝ }
 {
     let number = answer_fault(byte0, count, last, h, left);
     if number != 0 {
-        return Look::Bad(Refusal { number });
+        return Look::Bad(Refusal { number, at: place });
     }
     Look::Item(Seen {
         status: status_no(header::byte1(h)),
@@ -171,13 +172,23 @@ pub fn look_on(byte0: u32, count: usize, last: bool, h: u32, left: usize) -> Loo
 
 // The answer's header at word `at` of a datagram.
 pub fn look_at(byte0: u32, count: usize, last: bool, answer: &[u8], at: usize) -> Look
+    requires { ⌜ at ≤ limit ⌝ }
     ensures { λ r. ⌜ r ≡ lookAt byte0 count last (wordsOf (now (answer .entry))) at ⌝ }
 {
+    let place = at as u32;
     let n = answer.len() / 4;
     if n <= at {
         return Look::Bad(Refusal {
             number: Refusal::ANSWER_END,
+            at: place,
         });
     }
-    look_on(byte0, count, last, word::word_at(answer, at), n - at - 1)
+    look_on(
+        byte0,
+        count,
+        last,
+        place,
+        word::word_at(answer, at),
+        n - at - 1,
+    )
 }

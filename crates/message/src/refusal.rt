@@ -1,7 +1,9 @@
-// A refusal: its number in document 01's tables.
+// A refusal: its number in document 01's tables, and the index, from 0, of the header word that was looked at. Refusals 3 to 9, 31 and
+// 33 to 35 have such a word; all others have index 0.
 #[repr(C)]
 pub struct Refusal {
     pub number: u32,
+    pub at: u32,
 }
 
 impl Refusal {

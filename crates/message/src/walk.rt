@@ -6,7 +6,7 @@ ghost use lib.ListN.{length};
 ghost use Rattle.word.specs.Words.{wordsOf};
 ghost use Rattle.message.specs.declared.header.Kind.the-variants.{Write};
 ghost use Rattle.message.specs.Walk.{faultOf, refusalOf};
-ghost use Rattle.message.specs.Limits.{limitBytes};
+ghost use Rattle.message.specs.Limits.{limit, limitBytes};
 ghost use Rattle.message.specs.Request.{commandsFrom, stepAt, lengthOk, endOf, finish, walkOf};
 ghost use Rattle.message.specs.Header.{kindOf, countOf};
 use crate::faults;
@@ -57,13 +57,16 @@ fn short_write(byte0: u32, h: u32, left: usize) -> bool
 
 // The header at word `at` of a datagram. The body of a short write has a size of its own here, so that the processor knows where the
 // next header stands before it has this one.
-pub fn step_at(byte0: u32, datagram: &[u8], at: usize) -> Step
+pub(crate) fn step_at(byte0: u32, datagram: &[u8], at: usize) -> Step
+    requires { ⌜ at ≤ limit ⌝ }
     ensures { λ r. ⌜ r ≡ stepAt byte0 (wordsOf (now (datagram .entry))) at ⌝ }
 {
+    let place = at as u32;
     let n = datagram.len() / 4;
     if n <= at {
         return Step::Refused(Refusal {
             number: Refusal::PAST_END,
+            at: place,
         });
     }
     let h = word::word_at(datagram, at);
@@ -78,7 +81,7 @@ pub fn step_at(byte0: u32, datagram: &[u8], at: usize) -> Step
     }
     let number = faults::fault(byte0, h, left, datagram, at);
     if number != 0 {
-        return Step::Refused(Refusal { number });
+        return Step::Refused(Refusal { number, at: place });
     }
     Step::Read(header::head_of(byte0, h))
 }
@@ -89,12 +92,12 @@ pub enum Walked {
     Malformed(Refusal),
 }
 
-// The refusal that a step gave; 0 for a step that gave none.
+// The refusal that a step gave; number 0 for a step that gave none.
 fn refusal_of(s: Step) -> Refusal
     ensures { λ r. ⌜ r ≡ refusalOf s ⌝ }
 {
     match s {
-        Step::Read(_) => Refusal { number: 0 },
+        Step::Read(_) => Refusal { number: 0, at: 0 },
         Step::Refused(refusal) => refusal,
     }
 }
@@ -119,6 +122,7 @@ fn end(answer: usize) -> Walked
     if crate::LIMIT < answer {
         return Walked::Malformed(Refusal {
             number: Refusal::ANSWER,
+            at: 0,
         });
     }
     Walked::WellFormed(answer)
@@ -128,7 +132,7 @@ fn end(answer: usize) -> Walked
 // decides is decided once.
 fn walk_on(datagram: &[u8], byte0: u32) -> Walked
     requires { ⌜ length (now datagram) ≤ limitBytes ⌝ }
-    ensures { λ r. ⌜ r ≡ finish byte0 0 (commandsFrom byte0 0 (wordsOf (now (datagram .entry)))) ⌝ }
+    ensures { λ r. ⌜ r ≡ finish byte0 0 (commandsFrom byte0 0 0 (wordsOf (now (datagram .entry)))) ⌝ }
 {
     let each = header::reply_words(header::kind_of(byte0), 1);
     let mut at: usize = 0;
@@ -153,6 +157,7 @@ pub fn walk(datagram: &[u8]) -> Walked
     if !length_ok(datagram.len()) {
         return Walked::Malformed(Refusal {
             number: Refusal::LENGTH,
+            at: 0,
         });
     }
     walk_on(datagram, word::wide(datagram[0]))

@@ -35,8 +35,13 @@ fn say_number(number: u64, text: &[u8], n: u64) {
     io::write_all(STDOUT_FILENO, b"\n");
 }
 
+// A line for a refusal: its number, and the index of the header word that was looked at.
 fn say_refused(number: u64, refusal: Refusal) {
-    say_number(number, b" refused ", refusal.number as u64);
+    say(number, b" refused ");
+    io::print_decimal(STDOUT_FILENO, refusal.number as u64);
+    io::write_all(STDOUT_FILENO, b" at ");
+    io::print_decimal(STDOUT_FILENO, refusal.at as u64);
+    io::write_all(STDOUT_FILENO, b"\n");
 }
 
 // One record of so many bytes got: served, or named as short.
@@ -62,6 +67,7 @@ fn serve_one(
             number,
             Refusal {
                 number: Refusal::LENGTH,
+                at: 0,
             },
         );
         return Turn { more: true, tags };

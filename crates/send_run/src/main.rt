@@ -31,6 +31,7 @@ fn told(label: &[u8], moved: Moved) -> Sender {
     let s = moved.sender;
     say(label);
     number(b": refusal ", refusal.number as u64);
+    number(b" at ", refusal.at as u64);
     state(s);
     s
 }
@@ -41,6 +42,7 @@ fn sends(label: &[u8], s: Sender, message: &[u8]) {
     let part = sender::send(s, message);
     say(label);
     number(b": refusal ", refusal.number as u64);
+    number(b" at ", refusal.at as u64);
     number(b", bytes ", part.len() as u64);
     say(b"\n");
 }
@@ -137,9 +139,9 @@ fn discoveries(write0: &[u8]) {
     told(b"discovered by another answer", Sender::discovered(&plain));
 }
 
-// Three reads; the second failed.
-fn outcomes() {
-    let request = [
+// Three reads.
+fn three_reads() -> [u8; 24] {
+    [
         0x22u8,
         0,
         1,
@@ -164,7 +166,30 @@ fn outcomes() {
         0,
         0,
         0,
-    ];
+    ]
+}
+
+// Answers to three reads that are refused at their second header.
+fn later_headers() {
+    let request = three_reads();
+    let unknown = [0x32u8, 0, 1, 0, 0x11, 0x22, 0x33, 0x44, 0x32, 3, 0, 0x80];
+    let s = Sender {
+        next: 2,
+        waits: true,
+    };
+    told(
+        b"take of a second status 3",
+        sender::take(s, &request, &unknown),
+    );
+    told(
+        b"take of one answer of three",
+        sender::take(s, &request, &unknown[..8]),
+    );
+}
+
+// Three reads; the second failed.
+fn outcomes() {
+    let request = three_reads();
     let answer = [0x32u8, 0, 1, 0, 0x11, 0x22, 0x33, 0x44, 0x32, 2, 0, 0x80];
     number(b"answered ", outcome::answered(&request, &answer) as u64);
     say(b"\n");
@@ -190,6 +215,7 @@ fn main() {
         waits: true,
     };
     told(b"take of tag 15", sender::take(last, &write15, &end15));
+    later_headers();
     discoveries(&write0);
     outcomes();
 }

@@ -1,11 +1,12 @@
 //! The declarations of `include/charkhavo.h`, in its order: the records as C lays them out, and
 //! the libraries' functions. What each means stands there.
 
-/// A refusal as C has it: a struct of its number, 0 where nothing is refused.
+/// A refusal as C has it; number 0 where nothing is refused.
 #[repr(C)]
 #[derive(Clone, Copy, Debug, PartialEq, Eq)]
-pub struct Number {
+pub struct Refused {
     pub number: u32,
+    pub at: u32,
 }
 
 #[repr(C)]
@@ -19,7 +20,7 @@ pub struct TagRecord {
 #[repr(C)]
 #[derive(Clone, Copy, Debug, PartialEq, Eq)]
 pub struct Sent {
-    pub refusal: Number,
+    pub refusal: Refused,
     pub sent: usize,
 }
 
@@ -48,7 +49,7 @@ pub struct Asked {
 #[repr(C)]
 #[derive(Clone, Copy, Debug, PartialEq, Eq)]
 pub struct Built {
-    pub refusal: Number,
+    pub refusal: Refused,
     pub building: Building,
 }
 
@@ -68,14 +69,14 @@ pub struct Sender {
 #[repr(C)]
 #[derive(Clone, Copy, Debug, PartialEq, Eq)]
 pub struct Moved {
-    pub refusal: Number,
+    pub refusal: Refused,
     pub sender: Sender,
 }
 
 #[repr(C)]
 #[derive(Clone, Copy, Debug, PartialEq, Eq)]
 pub struct Sending {
-    pub refusal: Number,
+    pub refusal: Refused,
     pub length: usize,
 }
 
@@ -113,7 +114,7 @@ serving!(charkhavo_serve_before);
 
 extern "C" {
     // libloader.a
-    pub(super) fn charkhavo_refusal(request: *const u8, request_length: usize) -> Number;
+    pub(super) fn charkhavo_refusal(request: *const u8, request_length: usize) -> Refused;
     pub(super) fn charkhavo_begin(
         output: *const u8,
         output_length: usize,

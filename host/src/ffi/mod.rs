@@ -14,16 +14,16 @@
 mod c;
 
 pub use c::TagRecord;
-pub use c::{Asked, Building, Built, Discovery, Moved, Number, Part, Sender, Sending, Sent};
+pub use c::{Asked, Building, Built, Discovery, Moved, Part, Refused, Sender, Sending, Sent};
 
 use crate::refusal::Refusal;
 
-impl Number {
-    /// 0 is no refusal.
+impl Refused {
+    /// Number 0 is no refusal.
     pub fn result(self) -> Result<(), Refusal> {
-        match self.number {
-            0 => Ok(()),
-            number => Err(Refusal(number)),
+        match self {
+            Refused { number: 0, .. } => Ok(()),
+            Refused { number, at } => Err(Refusal { number, at }),
         }
     }
 }
@@ -63,7 +63,7 @@ serving!(serve, charkhavo_serve);
 serving!(serve_before, charkhavo_serve_before);
 
 /// The refusal of a request by any controller, 2 to 10; number 0 where it is well-formed.
-pub fn refusal(request: &[u8]) -> Number {
+pub fn refusal(request: &[u8]) -> Refused {
     // Sound: the request is only read.
     unsafe { c::charkhavo_refusal(request.as_ptr(), request.len()) }
 }

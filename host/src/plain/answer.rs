@@ -29,25 +29,26 @@ pub fn judge(
     }
     let mut at = 0;
     for command in commands(request) {
-        let word = words.get(at).ok_or(Refusal::ANSWER_END)?;
+        let word = words.get(at).ok_or(Refusal::ANSWER_END.at_word(at))?;
         let header = Header(u32::from_le_bytes(*word));
         if !header_allowed(header, byte0, command.header) {
-            return Err(Refusal::ANSWER_HEADER);
+            return Err(Refusal::ANSWER_HEADER.at_word(at));
         }
         let body = at + 1;
-        at = body + header.count();
+        let next = body + header.count();
         let ends = command.header.is_last() || header.status() != 0;
-        if at > words.len() || header.is_last() != ends || (ends && at != words.len()) {
-            return Err(Refusal::ANSWER_END);
+        if next > words.len() || header.is_last() != ends || (ends && next != words.len()) {
+            return Err(Refusal::ANSWER_END.at_word(at));
         }
         see(Answered {
             kind: command.header.kind(),
             status: header.status(),
-            data: 4 * body..4 * at,
+            data: 4 * body..4 * next,
         });
         if ends {
             break;
         }
+        at = next;
     }
     Ok(())
 }

@@ -63,11 +63,11 @@ enum Verdict {
     Discovery,
 }
 
-/// What a call gives back: the refusal's number (0 for none), and how many of the output's
+/// What a call gives back: the refusal (number 0 for none), and how many of the output's
 /// first bytes are to be sent (0 with a refusal).
 #[derive(Clone, Copy, Debug, PartialEq, Eq)]
 pub struct Served {
-    pub refusal: u32,
+    pub refusal: Refusal,
     pub sent: usize,
 }
 
@@ -81,8 +81,8 @@ pub fn serve(
     datagram: &[u8],
 ) -> Served {
     match answer_words(memory, stored, output, tags, datagram) {
-        Ok(words) => Served { refusal: 0, sent: 4 * words },
-        Err(Refusal(refusal)) => Served { refusal, sent: 0 },
+        Ok(words) => Served { refusal: Refusal::of(0), sent: 4 * words },
+        Err(refusal) => Served { refusal, sent: 0 },
     }
 }
 

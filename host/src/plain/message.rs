@@ -167,7 +167,7 @@ struct Size {
 }
 
 /// The walk for one kind, whose `size`, given a header and its place, gives 7, 8 and the 3
-/// between them; returns the words of the all-OK answer.
+/// between them; returns the words of the all-OK answer. A refusal is at the header looked at.
 #[inline(always)]
 fn walk_commands(
     words: &[WordBytes],
@@ -176,22 +176,25 @@ fn walk_commands(
 ) -> Result<usize, Refusal> {
     let (mut at, mut answer) = (0, 0);
     loop {
-        let header = Header(u32::from_le_bytes(*words.get(at).ok_or(Refusal::PAST_END)?));
+        let word = words.get(at).ok_or(Refusal::PAST_END.at_word(at))?;
+        let header = Header(u32::from_le_bytes(*word));
         if header.byte0() != first.byte0() {
-            return Err(Refusal::BYTE_0);
+            return Err(Refusal::BYTE_0.at_word(at));
         }
         if header.has_reserved() {
-            return Err(Refusal::RESERVED);
+            return Err(Refusal::RESERVED.at_word(at));
         }
-        let size = size(header, at)?;
-        at += size.request;
-        if at > words.len() {
-            return Err(Refusal::PAST_END);
+        let size = size(header, at).map_err(|refusal| refusal.at_word(at))?;
+        let next = at + size.request;
+        if next > words.len() {
+            return Err(Refusal::PAST_END.at_word(at));
         }
         answer += size.answer;
         if header.is_last() {
-            return if at == words.len() { Ok(answer) } else { Err(Refusal::AFTER_LAST) };
+            let ends = next == words.len();
+            return if ends { Ok(answer) } else { Err(Refusal::AFTER_LAST.at_word(at)) };
         }
+        at = next;
     }
 }
 

@@ -97,10 +97,12 @@ impl Sender {
     }
 }
 
-/// 31, its tag clause aside: a request that is well-formed and no discovery.
+/// 31, its tag clause aside: a request that is well-formed and no discovery. A malformed one is
+/// refused where the walk refused it.
 pub fn sendable(request: &[u8]) -> Result<Walked<'_>, Refusal> {
     match walk(request) {
         Ok(walked) if !walked.first.discovery() => Ok(walked),
-        _ => Err(Refusal::REQUEST),
+        Ok(_) => Err(Refusal::REQUEST),
+        Err(Refusal { at, .. }) => Err(Refusal { at, ..Refusal::REQUEST }),
     }
 }

@@ -2,7 +2,7 @@
 
 use crate::common::naive_building::Sequences;
 use crate::common::seen::Seen;
-use crate::common::Ends;
+use crate::common::{of, Ends, Given};
 use crate::{Other, Ours, ROUNDS, SEED};
 use charkhavo_host::limits::{BYTES, WORDS};
 use charkhavo_host::plain::Building;
@@ -16,20 +16,20 @@ fn building_calls() {
     let (mut calls, mut finished) = (0, 0);
     while calls < ROUNDS {
         let mut output = output(&mut random);
-        let (number, begun) = same_begin(&mut random, &output);
-        seen.note(number);
-        let goes_on = number == 0 && !random.one_in(3);
+        let (refusal, begun) = same_begin(&mut random, &output);
+        seen.note(refusal.number);
+        let goes_on = refusal.number == 0 && !random.one_in(3);
         let mut building = if goes_on { begun } else { record(&mut random) };
         let more = random.between(1, 40);
         for _ in 0..more {
             let call = next(&mut random, building.kind);
-            let (number, after) = same_call(&mut output, building, &call);
+            let (refusal, after) = same_call(&mut output, building, &call);
             building = after;
-            seen.note(number);
+            seen.note(refusal.number);
         }
         calls += 1 + more;
         if goes_on && building.closed {
-            assert_eq!(Other::refusal(&output[..4 * building.words]), 0, "well-formed");
+            assert_eq!(Other::refusal(&output[..4 * building.words]), of(0), "well-formed");
             finished += 1;
         }
     }
@@ -37,15 +37,15 @@ fn building_calls() {
     seen.exactly([0, 21, 22, 23, 24, 25, 26]);
 }
 
-fn same_begin(random: &mut Random, output: &[u8]) -> (u32, Building) {
+fn same_begin(random: &mut Random, output: &[u8]) -> Given<Building> {
     let Call::Begin { kind, tag, wide, discovery } = begin(random) else { unreachable!() };
     let ours = Ours::begin(output, kind, tag, wide, discovery);
     assert_eq!(ours, Other::begin(output, kind, tag, wide, discovery));
     ours
 }
 
-/// Adds or closes by both, over outputs alike; number, record and every byte must agree.
-fn same_call(output: &mut [u8], building: Building, call: &Call) -> (u32, Building) {
+/// Adds or closes by both, over outputs alike; refusal, record and every byte must agree.
+fn same_call(output: &mut [u8], building: Building, call: &Call) -> Given<Building> {
     let mut other = output.to_vec();
     let (ours, others) = match call.addition() {
         Some(addition) => {
@@ -72,8 +72,8 @@ fn records_that_no_calls_give() {
                     let closed = answer % 3 == 0;
                     let record = Building { words, last, answer, closed, ..empty };
                     let given = sequences.give(words, last, answer, closed);
-                    let (number, _) = Ours::close(&mut output, record);
-                    assert_eq!(number != 21, given, "{record:?}");
+                    let (refusal, _) = Ours::close(&mut output, record);
+                    assert_eq!(refusal != of(21), given, "{record:?}");
                     allowed += u64::from(given);
                 }
             }

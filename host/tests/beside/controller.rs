@@ -1,10 +1,11 @@
 //! The controller's call, for any buffers, records and datagrams.
 
 use crate::common::seen::Seen;
-use crate::common::Ends;
+use crate::common::{Ends, Given};
 use crate::{Other, Ours, ROUNDS, SEED};
 use charkhavo_host::random::controller::{lent, Lent};
 use charkhavo_host::random::Random;
+use charkhavo_host::Refusal;
 
 #[test]
 fn controller_calls() {
@@ -17,10 +18,10 @@ fn controller_calls() {
         let (refusal, sent) = serve::<Ours>(&mut ours);
         assert_eq!((refusal, sent), serve::<Other>(&mut other), "round {round}: {given:?}");
         assert!(ours == other, "round {round}: {given:?}");
-        seen.note(refusal);
+        seen.note(refusal.number);
         let well_formed = Ours::refusal(&given.datagram);
         assert_eq!(well_formed, Other::refusal(&given.datagram), "round {round}: {given:?}");
-        requests.note(well_formed);
+        requests.note(well_formed.number);
         met.note(refusal, &given, &ours);
     }
     seen.exactly(0..=11);
@@ -28,23 +29,25 @@ fn controller_calls() {
     met.all();
 }
 
-fn serve<E: Ends>(lent: &mut Lent) -> (u32, usize) {
+fn serve<E: Ends>(lent: &mut Lent) -> Given<usize> {
     let Lent { memory, stored, output, tags, datagram } = lent;
     E::serve(memory, stored, output, tags, datagram)
 }
 
-/// How often each way of being served came, and memory was changed.
+/// How often each way of being served came, memory was changed, and a later header refused.
 #[derive(Default)]
 struct Met {
     new: usize,
     repeats: usize,
     discoveries: usize,
     changes: usize,
+    later: usize,
 }
 
 impl Met {
-    fn note(&mut self, refusal: u32, before: &Lent, after: &Lent) {
-        if refusal != 0 {
+    fn note(&mut self, refusal: Refusal, before: &Lent, after: &Lent) {
+        if refusal.number != 0 {
+            self.later += usize::from(refusal.at != 0);
             return;
         }
         if before.datagram[0] & 0x80 != 0 {
@@ -58,8 +61,8 @@ impl Met {
     }
 
     fn all(&self) {
-        let Met { new, repeats, discoveries, changes } = *self;
-        let met = [new, repeats, discoveries, changes];
+        let Met { new, repeats, discoveries, changes, later } = *self;
+        let met = [new, repeats, discoveries, changes, later];
         assert!(met.iter().all(|times| *times > 100), "{met:?}");
     }
 }

@@ -9,7 +9,7 @@ use charkhavo_host::random::Random;
 #[test]
 fn sender_calls() {
     let mut random = Random::new(SEED + 1);
-    let (mut seen, mut statuses) = (Seen::default(), Seen::default());
+    let (mut seen, mut later, mut statuses) = (Seen::default(), Seen::default(), Seen::default());
     let mut read = 0;
     for round in 0..ROUNDS {
         let given = lent(&mut random);
@@ -21,14 +21,16 @@ fn sender_calls() {
         assert_eq!(sent, Other::send(*sender, request), "{}", say());
         let taken = Ours::take(*sender, request, answer);
         assert_eq!(taken, Other::take(*sender, request, answer), "{}", say());
-        for number in [offered.0, sent.0, taken.0] {
-            seen.note(number);
+        for refusal in [offered.0, sent.0, taken.0] {
+            seen.note(refusal.number);
+            later.note(if refusal.at == 0 { 0 } else { refusal.number });
         }
         let (status, length) = same_outcome(&mut random, request, answer);
         statuses.note(status);
         read += length;
     }
     seen.exactly([0, 30, 31, 32, 33, 34, 35, 36, 37]);
+    later.exactly([0, 31, 34, 35]);
     statuses.exactly([0, 1, 2, 3]);
     assert!(read > ROUNDS, "{read} bytes of read data");
 }
@@ -61,7 +63,7 @@ fn senders_from_discovery_answers() {
         let answer = discovery_answer(&mut random);
         let discovered = Ours::discovered(&answer);
         assert_eq!(discovered, Other::discovered(&answer), "round {round}: {answer:02X?}");
-        seen.note(discovered.0);
+        seen.note(discovered.0.number);
     }
     seen.exactly([0, 32, 33, 34, 35, 38]);
 }

@@ -1,6 +1,6 @@
 //! The bench sheet of document 01, line by line.
 
-use crate::common::Bench;
+use crate::common::{at, of, Bench};
 use charkhavo_host::limits::WORDS;
 use charkhavo_host::plain::TagRecord;
 
@@ -65,7 +65,7 @@ fn c_writes_one_byte() {
 
 #[test]
 fn d_is_out_of_step() {
-    assert_eq!(after_a().give(&[0x8001_0F12, 0x0000_0004, 0]), Err(11));
+    assert_eq!(after_a().give(&[0x8001_0F12, 0x0000_0004, 0]), Err(of(11)));
 }
 
 #[test]
@@ -99,10 +99,18 @@ fn a_high_address_word_counts() {
 }
 
 #[test]
+fn another_tag_in_the_fifth_header() {
+    let four = [0x0001_0F10, 0, 0x1111_1111].repeat(4);
+    let mut bench = Bench::sheet();
+    assert_eq!(bench.give(&[&four[..], &[0x8001_0F11, 4, 0x2222_2222]].concat()), Err(at(4, 12)));
+    assert_eq!(bench, Bench::sheet());
+}
+
+#[test]
 fn gaps_at_8_and_at_12() {
     let gapped = |address| [0x8002_A510, address, 0x1122_3344, 0x5566_7788];
     let mut bench = Bench::sheet();
-    assert_eq!(bench.give(&gapped(12)), Err(8));
+    assert_eq!(bench.give(&gapped(12)), Err(of(8)));
     assert_eq!(bench, Bench::sheet());
     assert_eq!(bench.give(&gapped(8)), Ok(vec![0x8000_0030]));
     assert_eq!(bench.memory, [0, 0, 0x0022_0044, 0x5500_7700, 0xF00D_FACE, 0, 0, 0]);
@@ -112,17 +120,17 @@ fn gaps_at_8_and_at_12() {
 #[test]
 fn short_datagrams_counts_and_reserved_bits() {
     let mut bench = Bench::sheet();
-    assert_eq!(bench.give_bytes(&[]), Err(2));
-    assert_eq!(bench.give_bytes(&[0x10, 0x0F, 0x01]), Err(2));
-    assert_eq!(bench.give(&[0x8000_0F10, 4]), Err(7));
-    assert_eq!(bench.give(&[0x9001_0F10, 4, 0]), Err(6));
+    assert_eq!(bench.give_bytes(&[]), Err(of(2)));
+    assert_eq!(bench.give_bytes(&[0x10, 0x0F, 0x01]), Err(of(2)));
+    assert_eq!(bench.give(&[0x8000_0F10, 4]), Err(of(7)));
+    assert_eq!(bench.give(&[0x9001_0F10, 4, 0]), Err(of(6)));
 }
 
 #[test]
 fn the_longest_read_and_one_more() {
     let read = |count: usize| [0x8000_0020 | (count as u32) << 16, 0];
     assert_eq!(Bench::sheet().give(&read(WORDS - 1)), Ok(vec![0x8000_0230]));
-    assert_eq!(Bench::sheet().give(&read(WORDS)), Err(10));
+    assert_eq!(Bench::sheet().give(&read(WORDS)), Err(of(10)));
     if WORDS == 368 {
         assert_eq!(read(WORDS - 1), [0x816F_0020, 0]);
         assert_eq!(read(WORDS), [0x8170_0020, 0]);

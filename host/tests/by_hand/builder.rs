@@ -1,6 +1,6 @@
 //! Building a message: refusals 21 to 26 by hand, and what each call writes.
 
-use crate::common::{words_of, Ends};
+use crate::common::{of, words_of, Ends, Given};
 use crate::Ours;
 use charkhavo_host::limits::{BYTES, WORDS};
 use charkhavo_host::plain::{Addition, Building};
@@ -27,8 +27,8 @@ impl Bench {
     }
 
     fn begin_as(output: Vec<u8>, kind: u32, tag: u32, wide: bool, discovery: bool) -> Bench {
-        let (number, record) = Ours::begin(&output, kind, tag, wide, discovery);
-        assert_eq!(number, 0);
+        let (refusal, record) = Ours::begin(&output, kind, tag, wide, discovery);
+        assert_eq!(refusal, of(0));
         let begun = Building { kind, tag, wide, discovery, ..Building::EMPTY };
         assert_eq!(record, begun);
         Bench { record, output }
@@ -47,12 +47,13 @@ impl Bench {
         self.checked(done, before)
     }
 
-    fn checked(&mut self, (number, record): (u32, Building), output: Vec<u8>) -> u32 {
-        if number != 0 {
+    fn checked(&mut self, (refusal, record): Given<Building>, output: Vec<u8>) -> u32 {
+        assert_eq!(refusal.at, 0, "building has no header word to name");
+        if refusal.number != 0 {
             assert_eq!((record, &self.output), (self.record, &output));
         }
         self.record = record;
-        number
+        refusal.number
     }
 
     fn words(&self) -> Vec<u32> {
@@ -96,9 +97,9 @@ fn nops_carry_their_words_and_no_address() {
 #[test]
 fn refusal_21_at_begin() {
     let begin = |length, kind, tag| Ours::begin(&vec![0; length], kind, tag, true, true);
-    assert_eq!(begin(BYTES, 2, 15).0, 0);
+    assert_eq!(begin(BYTES, 2, 15).0, of(0));
     for (length, kind, tag) in [(BYTES - 1, 0, 0), (BYTES, 3, 0), (BYTES, 0, 16), (0, 9, 99)] {
-        assert_eq!(begin(length, kind, tag), (21, Building::EMPTY));
+        assert_eq!(begin(length, kind, tag), (of(21), Building::EMPTY));
     }
 }
 
@@ -127,7 +128,7 @@ fn refusal_21_of_records_that_cannot_be() {
     assert_eq!(spoilt(|record| record.wide = true), 21);
     assert_eq!(spoilt(|record| record.discovery = true), 0);
     let nothing = Building { closed: true, ..Building::EMPTY };
-    assert_eq!(Ours::close(&mut vec![0; BYTES], nothing), (21, nothing));
+    assert_eq!(Ours::close(&mut vec![0; BYTES], nothing), (of(21), nothing));
 }
 
 #[test]

@@ -1,10 +1,11 @@
 //! Each refusal of the controller by hand-made datagrams, and the order they come in.
 
-use crate::common::{bytes_of, Bench};
+use crate::common::{at, bytes_of, of, Bench};
 use charkhavo_host::limits::{BYTES, WORDS};
 use charkhavo_host::plain::TagRecord;
+use charkhavo_host::Refusal;
 
-fn refused(words: &[u32]) -> Option<u32> {
+fn refused(words: &[u32]) -> Option<Refusal> {
     Bench::sheet().give(words).err()
 }
 
@@ -20,11 +21,11 @@ fn refusal_1_buffers() {
     };
     assert_eq!(lent(1, WORDS, BYTES), None);
     assert_eq!(lent(16_384, WORDS, BYTES), None);
-    assert_eq!(lent(0, WORDS, BYTES), Some(1));
-    assert_eq!(lent(16_385, WORDS, BYTES), Some(1));
-    assert_eq!(lent(1, WORDS - 1, BYTES), Some(1));
-    assert_eq!(lent(1, WORDS, BYTES - 1), Some(1));
-    assert_eq!(lent(1, 0, 0), Some(1));
+    assert_eq!(lent(0, WORDS, BYTES), Some(of(1)));
+    assert_eq!(lent(16_385, WORDS, BYTES), Some(of(1)));
+    assert_eq!(lent(1, WORDS - 1, BYTES), Some(of(1)));
+    assert_eq!(lent(1, WORDS, BYTES - 1), Some(of(1)));
+    assert_eq!(lent(1, 0, 0), Some(of(1)));
 }
 
 #[test]
@@ -35,79 +36,79 @@ fn refusal_1_record() {
     };
     assert_eq!(with(false, 15, 1), None);
     assert_eq!(with(false, 0, WORDS), None);
-    assert_eq!(with(false, 16, 1), Some(1));
-    assert_eq!(with(false, u32::MAX, 1), Some(1));
-    assert_eq!(with(false, 0, 0), Some(1));
-    assert_eq!(with(false, 0, WORDS + 1), Some(1));
-    assert_eq!(with(false, 0, usize::MAX), Some(1));
+    assert_eq!(with(false, 16, 1), Some(of(1)));
+    assert_eq!(with(false, u32::MAX, 1), Some(of(1)));
+    assert_eq!(with(false, 0, 0), Some(of(1)));
+    assert_eq!(with(false, 0, WORDS + 1), Some(of(1)));
+    assert_eq!(with(false, 0, usize::MAX), Some(of(1)));
     assert_eq!(with(true, u32::MAX, usize::MAX), None, "a fresh record is not looked into");
 }
 
 #[test]
 fn refusal_1_asks_first() {
     let mut bench = Bench::new(Vec::new());
-    assert_eq!(bench.give_bytes(&[]), Err(1));
-    assert_eq!(bench.give_bytes(&[0; 5]), Err(1));
+    assert_eq!(bench.give_bytes(&[]), Err(of(1)));
+    assert_eq!(bench.give_bytes(&[0; 5]), Err(of(1)));
 }
 
 #[test]
 fn refusal_2_length() {
-    let of = |length| Bench::sheet().give_bytes(&vec![0; length]).err();
+    let long = |length| Bench::sheet().give_bytes(&vec![0; length]).err();
     for length in [0, 1, 2, 3, 5, 7, BYTES - 1, BYTES + 1, BYTES + 4, 10 * BYTES] {
-        assert_eq!(of(length), Some(2), "{length} bytes");
+        assert_eq!(long(length), Some(of(2)), "{length} bytes");
     }
     let mut nops = vec![0; WORDS];
-    assert_eq!(refused(&nops), Some(3), "as long as can be, and LAST missing");
+    assert_eq!(refused(&nops), Some(at(3, WORDS)), "as long as can be, and LAST missing");
     nops[WORDS - 1] = 0x8000_0000;
     assert_eq!(refused(&nops), None);
 }
 
 #[test]
 fn refusal_3_past_the_end() {
-    assert_eq!(refused(&[0x8001_0F10]), Some(3), "no address");
-    assert_eq!(refused(&[0x8001_0F10, 0]), Some(3), "no data");
-    assert_eq!(refused(&[0x8002_FF10, 0, 1]), Some(3), "data short");
-    assert_eq!(refused(&[0x8001_0F50, 0, 0]), Some(3), "wide, no data");
-    assert_eq!(refused(&[0x8001_0020]), Some(3), "a read without its address");
-    assert_eq!(refused(&[0x8001_0060, 0]), Some(3), "a wide read with half of it");
-    assert_eq!(refused(&[0x8002_0000, 0]), Some(3), "a NOP short of a word");
-    assert_eq!(refused(&[0x0001_0020, 0]), Some(3), "LAST missing");
-    assert_eq!(refused(&[0x0FFF_FF10, 0]), Some(3), "the greatest count");
+    assert_eq!(refused(&[0x8001_0F10]), Some(of(3)), "no address");
+    assert_eq!(refused(&[0x8001_0F10, 0]), Some(of(3)), "no data");
+    assert_eq!(refused(&[0x8002_FF10, 0, 1]), Some(of(3)), "data short");
+    assert_eq!(refused(&[0x8001_0F50, 0, 0]), Some(of(3)), "wide, no data");
+    assert_eq!(refused(&[0x8001_0020]), Some(of(3)), "a read without its address");
+    assert_eq!(refused(&[0x8001_0060, 0]), Some(of(3)), "a wide read with half of it");
+    assert_eq!(refused(&[0x8002_0000, 0]), Some(of(3)), "a NOP short of a word");
+    assert_eq!(refused(&[0x0001_0020, 0]), Some(at(3, 2)), "LAST missing");
+    assert_eq!(refused(&[0x0FFF_FF10, 0]), Some(of(3)), "the greatest count");
 }
 
 #[test]
 fn refusal_4_byte_0() {
     for bit in 0..8 {
         let other = 0x8001_0020 ^ 1 << bit;
-        assert_eq!(refused(&[0x0001_0020, 0, other, 0]), Some(4), "bit {bit}");
+        assert_eq!(refused(&[0x0001_0020, 0, other, 0]), Some(at(4, 2)), "bit {bit}");
     }
 }
 
 #[test]
 fn refusal_5_kind_3() {
-    assert_eq!(refused(&[0x8000_0030]), Some(5));
-    assert_eq!(refused(&[0x8000_00B0]), Some(5));
-    assert_eq!(refused(&[0xF000_0030]), Some(5), "5 before 6");
-    assert_eq!(refused(&[0x0001_0020, 0, 0x8000_0030]), Some(4), "later it is 4");
+    assert_eq!(refused(&[0x8000_0030]), Some(of(5)));
+    assert_eq!(refused(&[0x8000_00B0]), Some(of(5)));
+    assert_eq!(refused(&[0xF000_0030]), Some(of(5)), "5 before 6");
+    assert_eq!(refused(&[0x0001_0020, 0, 0x8000_0030]), Some(at(4, 2)), "later it is 4");
 }
 
 #[test]
 fn refusal_6_reserved() {
     for bit in 28..31 {
-        assert_eq!(refused(&[READ[0] | 1 << bit, 0]), Some(6), "bit {bit}");
-        assert_eq!(refused(&[0x0001_0020, 0, READ[0] | 1 << bit, 0]), Some(6));
+        assert_eq!(refused(&[READ[0] | 1 << bit, 0]), Some(of(6)), "bit {bit}");
+        assert_eq!(refused(&[0x0001_0020, 0, READ[0] | 1 << bit, 0]), Some(at(6, 2)));
     }
-    assert_eq!(refused(&[0x9000_0020]), Some(6), "6 before 7");
+    assert_eq!(refused(&[0x9000_0020]), Some(of(6)), "6 before 7");
 }
 
 #[test]
 fn refusal_7_count() {
-    assert_eq!(refused(&[0x8000_0020, 0]), Some(7));
-    assert_eq!(refused(&[0x8000_0010, 0]), Some(7));
-    assert_eq!(refused(&[0x8003_0000, 0, 0, 0]), Some(7));
+    assert_eq!(refused(&[0x8000_0020, 0]), Some(of(7)));
+    assert_eq!(refused(&[0x8000_0010, 0]), Some(of(7)));
+    assert_eq!(refused(&[0x8003_0000, 0, 0, 0]), Some(of(7)));
     assert_eq!(refused(&[0x8000_0000]), None, "a NOP may have none");
     assert_eq!(refused(&[0x8002_0000, 0, 0]), None);
-    assert_eq!(refused(&[0x8000_1010]), Some(7), "7 before 8, and before 3");
+    assert_eq!(refused(&[0x8000_1010]), Some(of(7)), "7 before 8, and before 3");
 }
 
 #[test]
@@ -115,12 +116,12 @@ fn refusal_8_enables() {
     for byte1 in 0..=0xFF {
         let (first, last) = (byte1 & 0xF, byte1 >> 4);
         let one = refused(&[0x8001_0010 | byte1 << 8, 0, 0]);
-        assert_eq!(one, (last != 0).then_some(8), "count 1, byte 1 {byte1:02X}");
+        assert_eq!(one, (last != 0).then_some(of(8)), "count 1, byte 1 {byte1:02X}");
         let two = |address| refused(&[0x8002_0010 | byte1 << 8, address, 0, 0]);
-        let gaps = (first == 0 || last == 0).then_some(8);
+        let gaps = (first == 0 || last == 0).then_some(of(8));
         assert_eq!((two(0), two(8)), (gaps, gaps), "count 2, byte 1 {byte1:02X}");
         let whole = [8, 12, 14, 15].contains(&first) && [1, 3, 7, 15].contains(&last);
-        let no_gaps = (!whole).then_some(8);
+        let no_gaps = (!whole).then_some(of(8));
         assert_eq!((two(4), two(12)), (no_gaps, no_gaps), "no multiple of 8, {byte1:02X}");
         assert_eq!((two(9), two(10)), (no_gaps, no_gaps), "nor of 4, byte 1 {byte1:02X}");
         let three = refused(&[0x8003_0010 | byte1 << 8, 8, 0, 0, 0]);
@@ -130,17 +131,17 @@ fn refusal_8_enables() {
         assert_eq!(refused(&[0x8002_0020 | byte1 << 8, 0]), None, "reads: not looked at");
         assert_eq!(refused(&[0x8000_0000 | byte1 << 8]), None, "NOPs: not looked at");
     }
-    assert_eq!(refused(&[0x8001_1F10]), Some(3), "3 (address) before 8");
-    assert_eq!(refused(&[0x8001_1F50, 0]), Some(3), "the second address word too");
-    assert_eq!(refused(&[0x8001_1F10, 0]), Some(8), "8 before 3 (data)");
+    assert_eq!(refused(&[0x8001_1F10]), Some(of(3)), "3 (address) before 8");
+    assert_eq!(refused(&[0x8001_1F50, 0]), Some(of(3)), "the second address word too");
+    assert_eq!(refused(&[0x8001_1F10, 0]), Some(of(8)), "8 before 3 (data)");
 }
 
 #[test]
 fn refusal_9_words_after_last() {
-    assert_eq!(refused(&[0x8001_0020, 0, 0]), Some(9));
-    assert_eq!(refused(&[0x8001_0020, 0, 0x8001_0020, 0]), Some(9));
-    assert_eq!(refused(&[0x8000_0000, 0]), Some(9));
-    assert_eq!(refused(&[0x8001_0F10, 0, 0, 0xFFFF_FFFF]), Some(9));
+    assert_eq!(refused(&[0x8001_0020, 0, 0]), Some(of(9)));
+    assert_eq!(refused(&[0x8001_0020, 0, 0x8001_0020, 0]), Some(of(9)));
+    assert_eq!(refused(&[0x8000_0000, 0]), Some(of(9)));
+    assert_eq!(refused(&[0x8001_0F10, 0, 0, 0xFFFF_FFFF]), Some(of(9)));
 }
 
 #[test]
@@ -148,13 +149,13 @@ fn refusal_10_long_answer() {
     let count = |words: usize| (words as u32) << 16;
     let two = |first, second| [0x20 | count(first), 0, 0x8000_0020 | count(second), 0];
     assert_eq!(refused(&two(1, WORDS - 3)), None);
-    assert_eq!(refused(&two(1, WORDS - 2)), Some(10));
-    assert_eq!(refused(&[0x8FFF_0020, 0]), Some(10));
-    assert_eq!(refused(&[0x8FFF_00A0, 0]), Some(10), "a discovery too");
+    assert_eq!(refused(&two(1, WORDS - 2)), Some(of(10)));
+    assert_eq!(refused(&[0x8FFF_0020, 0]), Some(of(10)));
+    assert_eq!(refused(&[0x8FFF_00A0, 0]), Some(of(10)), "a discovery too");
     let long = [0x8FFF_0020, 0];
-    assert_eq!(Bench::with_tag(0).give(&long), Err(10), "a repeat too");
-    assert_eq!(Bench::with_tag(7).give(&long), Err(10), "10 before 11");
-    assert_eq!(refused(&[0x0FFF_0020, 0, 0x9001_0020, 0]), Some(6), "the walk comes first");
+    assert_eq!(Bench::with_tag(0).give(&long), Err(of(10)), "a repeat too");
+    assert_eq!(Bench::with_tag(7).give(&long), Err(of(10)), "10 before 11");
+    assert_eq!(refused(&[0x0FFF_0020, 0, 0x9001_0020, 0]), Some(at(6, 2)), "the walk comes first");
 }
 
 #[test]
@@ -163,7 +164,7 @@ fn refusal_11_out_of_step() {
         for tag in 0..16 {
             let given = Bench::with_tag(stored).give(&[0x8001_0020 | tag, 0]).err();
             let allowed = tag == stored || tag == (stored + 1) % 16;
-            assert_eq!(given, (!allowed).then_some(11), "stored {stored}, tag {tag}");
+            assert_eq!(given, (!allowed).then_some(of(11)), "stored {stored}, tag {tag}");
             let discovery = Bench::with_tag(stored).give(&[0x8001_00A0 | tag, 0]).err();
             assert_eq!(discovery, None);
         }
@@ -174,11 +175,11 @@ fn refusal_11_out_of_step() {
 fn the_first_faulty_header_decides() {
     let write = [0x0001_0F10, 0, 7];
     let with = |rest: &[u32]| refused(&[&write[..], rest].concat());
-    assert_eq!(with(&[0x0000_0F10, 0xFFFF_FFFF]), Some(7));
-    assert_eq!(with(&[0x0001_1F10, 0, 0, 0x9001_0F10]), Some(8));
-    assert_eq!(with(&[0x8001_0F10, 0, 0, 0x9001_0F10]), Some(9));
-    assert_eq!(with(&[0x8001_0F11, 0, 0]), Some(4));
-    assert_eq!(with(&[]), Some(3));
+    assert_eq!(with(&[0x0000_0F10, 0xFFFF_FFFF]), Some(at(7, 3)));
+    assert_eq!(with(&[0x0001_1F10, 0, 0, 0x9001_0F10]), Some(at(8, 3)));
+    assert_eq!(with(&[0x8001_0F10, 0, 0, 0x9001_0F10]), Some(at(9, 3)));
+    assert_eq!(with(&[0x8001_0F11, 0, 0]), Some(at(4, 3)));
+    assert_eq!(with(&[]), Some(at(3, 3)));
 }
 
 #[test]
@@ -186,6 +187,28 @@ fn a_fault_at_the_end_leaves_nothing_written() {
     let mut words: Vec<u32> = (0..4).flat_map(|at| [0x0001_0F10, 4 * at, 0xAAAA_AAAA]).collect();
     words.extend([0x8001_1F10, 0, 0]);
     let mut bench = Bench::sheet();
-    assert_eq!(bench.give_bytes(&bytes_of(&words)), Err(8));
+    assert_eq!(bench.give_bytes(&bytes_of(&words)), Err(at(8, 12)));
     assert_eq!(bench, Bench::sheet());
+}
+
+/// Behind so many good writes, each fault that a later header can have is at that header.
+#[test]
+fn the_faulty_header_is_named() {
+    let faults: [(u32, &[u32]); 9] = [
+        (3, &[]),
+        (3, &[0x8001_0F10]),
+        (3, &[0x8001_0F10, 0]),
+        (4, &[0x8001_0F11, 0, 0]),
+        (4, &[0x8001_0030]),
+        (6, &[0xC001_0F10, 0, 0]),
+        (7, &[0x8000_0F10, 0]),
+        (8, &[0x8002_A510, 12, 0, 0]),
+        (9, &[0x8001_0F10, 0, 0, 0]),
+    ];
+    for before in 1..=120 {
+        for (number, fault) in faults {
+            let words = [[0x0001_0F10, 0, 7].repeat(before).as_slice(), fault].concat();
+            assert_eq!(refused(&words), Some(at(number, 3 * before)), "{before} {fault:?}");
+        }
+    }
 }

@@ -1,10 +1,11 @@
 //! The sender's refusals 30 to 38 by hand, their order, and outcomes.
 
 use crate::common::ends::ABSENT;
-use crate::common::{bytes_of, Bench, Ends};
+use crate::common::{at, bytes_of, of, Bench, Ends};
 use crate::Ours;
 use charkhavo_host::limits::{BYTES, WORDS};
 use charkhavo_host::plain::Sender;
+use charkhavo_host::Refusal;
 
 const LAST: u32 = 0x8000_0000;
 /// Reads of 2 and of 1 word, tag 5.
@@ -16,11 +17,11 @@ fn waiting() -> Sender {
 }
 
 /// What taking this answer to READS gives; a refusal must leave the sender as it was.
-fn taken(answer: &[u32]) -> u32 {
-    let (number, sender) = Ours::take(waiting(), &bytes_of(&READS), &bytes_of(answer));
+fn taken(answer: &[u32]) -> Refusal {
+    let (refusal, sender) = Ours::take(waiting(), &bytes_of(&READS), &bytes_of(answer));
     let after = Sender { next: 6, waits: false };
-    assert_eq!(sender, if number == 0 { after } else { waiting() });
-    number
+    assert_eq!(sender, if refusal == of(0) { after } else { waiting() });
+    refusal
 }
 
 #[test]
@@ -29,12 +30,12 @@ fn a_message_from_offer_to_answer() {
     let sender = Ours::fresh();
     assert_eq!(sender, Sender { next: 0, waits: false });
     let offered = Sender { next: 0, waits: true };
-    assert_eq!(Ours::offer(sender, &request), (0, offered));
+    assert_eq!(Ours::offer(sender, &request), (of(0), offered));
     for _ in 0..3 {
-        assert_eq!(Ours::send(offered, &request), (0, request.len()));
+        assert_eq!(Ours::send(offered, &request), (of(0), request.len()));
     }
     let taken = Ours::take(offered, &request, &bytes_of(&[0x8000_0030]));
-    assert_eq!(taken, (0, Sender { next: 1, waits: false }));
+    assert_eq!(taken, (of(0), Sender { next: 1, waits: false }));
 }
 
 #[test]
@@ -43,7 +44,7 @@ fn a_failed_command_ends_the_message_and_15_is_followed_by_0() {
         let sender = Sender { next: 15, waits: true };
         let answer = bytes_of(&[0x8000_003F | status << 8]);
         let taken = Ours::take(sender, &bytes_of(&[0x0001_002F, 0, 0x8001_002F, 0]), &answer);
-        assert_eq!(taken, (0, Ours::fresh()));
+        assert_eq!(taken, (of(0), Ours::fresh()));
     }
 }
 
@@ -52,14 +53,14 @@ fn refusals_37_36_30_come_before_all_others() {
     for next in [16, u32::MAX] {
         for waits in [false, true] {
             let sender = Sender { next, waits };
-            assert_eq!(Ours::offer(sender, &[]), (37, sender));
-            assert_eq!(Ours::send(sender, &[]), (37, 0));
-            assert_eq!(Ours::take(sender, &[], &[]), (37, sender));
+            assert_eq!(Ours::offer(sender, &[]), (of(37), sender));
+            assert_eq!(Ours::send(sender, &[]), (of(37), 0));
+            assert_eq!(Ours::take(sender, &[], &[]), (of(37), sender));
         }
     }
-    assert_eq!(Ours::offer(waiting(), &[]), (36, waiting()));
-    assert_eq!(Ours::send(Ours::fresh(), &[]), (30, 0));
-    assert_eq!(Ours::take(Ours::fresh(), &[], &[]), (30, Ours::fresh()));
+    assert_eq!(Ours::offer(waiting(), &[]), (of(36), waiting()));
+    assert_eq!(Ours::send(Ours::fresh(), &[]), (of(30), 0));
+    assert_eq!(Ours::take(Ours::fresh(), &[], &[]), (of(30), Ours::fresh()));
 }
 
 #[test]
@@ -74,18 +75,34 @@ fn refusal_31() {
     ];
     for request in bad.map(bytes_of) {
         let open = Sender { next: 5, waits: false };
-        assert_eq!(Ours::offer(open, &request), (31, open));
-        assert_eq!(Ours::send(waiting(), &request), (31, 0));
-        assert_eq!(Ours::take(waiting(), &request, &[]), (31, waiting()), "31 before 32");
+        assert_eq!(Ours::offer(open, &request), (of(31), open));
+        assert_eq!(Ours::send(waiting(), &request), (of(31), 0));
+        assert_eq!(Ours::take(waiting(), &request, &[]), (of(31), waiting()), "31 before 32");
+    }
+}
+
+/// 31 is where the request is at fault, for each call that gives it.
+#[test]
+fn refusal_31_at_a_later_header() {
+    let faults: [&[u32]; 4] = [&[], &[0x8001_0026, 0], &[0x9001_0025, 0], &[0x8001_0025, 0, 0]];
+    for before in 1..=100 {
+        for fault in faults {
+            let words = [[0x0001_0025, 0].repeat(before).as_slice(), fault].concat();
+            let (request, refusal) = (bytes_of(&words), at(31, 2 * before));
+            let open = Sender { next: 5, waits: false };
+            assert_eq!(Ours::offer(open, &request), (refusal, open));
+            assert_eq!(Ours::send(waiting(), &request), (refusal, 0));
+            assert_eq!(Ours::take(waiting(), &request, &[]), (refusal, waiting()));
+        }
     }
 }
 
 #[test]
 fn refusal_32() {
-    assert_eq!(taken(&ANSWER), 0);
+    assert_eq!(taken(&ANSWER), of(0));
     for length in [0, 1, 3, 21, BYTES + 4] {
         let taken = Ours::take(waiting(), &bytes_of(&READS), &vec![0xFF; length]);
-        assert_eq!(taken, (32, waiting()), "{length} bytes");
+        assert_eq!(taken, (of(32), waiting()), "{length} bytes");
     }
 }
 
@@ -95,7 +112,7 @@ fn refusal_33() {
         let mut answer = ANSWER;
         answer[0] ^= 1 << bit;
         answer[0] |= 7 << 28;
-        assert_eq!(taken(&answer), 33, "bit {bit}, before 34");
+        assert_eq!(taken(&answer), of(33), "bit {bit}, before 34");
     }
 }
 
@@ -104,31 +121,31 @@ fn refusal_34() {
     for bit in (8..11).chain(12..31) {
         let mut answer = ANSWER;
         answer[0] ^= 1 << bit;
-        assert_eq!(taken(&answer), 34, "bit {bit} of the first");
+        assert_eq!(taken(&answer), of(34), "bit {bit} of the first");
     }
     for bit in (0..8).chain(10..31) {
         let mut answer = ANSWER;
         answer[3] ^= 1 << bit;
-        assert_eq!(taken(&answer), 34, "bit {bit} of the second");
+        assert_eq!(taken(&answer), at(34, 3), "bit {bit} of the second");
     }
-    assert_eq!(taken(&[0x8000_0335]), 34, "status 3");
-    assert_eq!(taken(&[0x8001_0235, 0]), 34, "an Error with data");
-    assert_eq!(taken(&[0x8001_0035, 0]), 34, "34 before 35 at one header");
+    assert_eq!(taken(&[0x8000_0335]), of(34), "status 3");
+    assert_eq!(taken(&[0x8001_0235, 0]), of(34), "an Error with data");
+    assert_eq!(taken(&[0x8001_0035, 0]), of(34), "34 before 35 at one header");
 }
 
 #[test]
 fn refusal_35() {
-    assert_eq!(taken(&ANSWER[..4]), 35, "body past the end");
-    assert_eq!(taken(&ANSWER[..3]), 35, "no word there");
-    assert_eq!(taken(&ANSWER[..2]), 35);
+    assert_eq!(taken(&ANSWER[..4]), at(35, 3), "body past the end");
+    assert_eq!(taken(&ANSWER[..3]), at(35, 3), "no word there");
+    assert_eq!(taken(&ANSWER[..2]), of(35));
     let [one, two, three, four, five] = ANSWER;
-    assert_eq!(taken(&[one | LAST, two, three, four, five]), 35, "early");
-    assert_eq!(taken(&[one | LAST, two, three]), 35, "early, and the end there");
-    assert_eq!(taken(&[one, two, three, four & !LAST, five]), 35, "missing");
-    assert_eq!(taken(&[one, two, three, four, five, 0]), 35, "words after it");
-    assert_eq!(taken(&[0x0000_0235]), 35, "missing on an Error");
-    assert_eq!(taken(&[0x8000_0235, 0]), 35, "words after an Error");
-    assert_eq!(taken(&[one, two, three, 0x8000_0135]), 0, "Timeout on the second");
+    assert_eq!(taken(&[one | LAST, two, three, four, five]), of(35), "early");
+    assert_eq!(taken(&[one | LAST, two, three]), of(35), "early, and the end there");
+    assert_eq!(taken(&[one, two, three, four & !LAST, five]), at(35, 3), "missing");
+    assert_eq!(taken(&[one, two, three, four, five, 0]), at(35, 3), "words after it");
+    assert_eq!(taken(&[0x0000_0235]), of(35), "missing on an Error");
+    assert_eq!(taken(&[0x8000_0235, 0]), of(35), "words after an Error");
+    assert_eq!(taken(&[one, two, three, 0x8000_0135]), of(0), "Timeout on the second");
 }
 
 #[test]
@@ -137,18 +154,18 @@ fn counts_by_kind() {
         let sender = Sender { next: 0, waits: true };
         Ours::take(sender, &bytes_of(request), &bytes_of(answer)).0
     };
-    assert_eq!(take(&[0x8001_0F10, 0, 0], &[0x8001_0030, 0]), 34, "a write's is 0");
-    assert_eq!(take(&[0x8002_0000, 0, 0], &[0x8002_0030, 1, 2]), 0);
-    assert_eq!(take(&[0x8002_0000, 0, 0], &[0x8001_0030, 1]), 34);
-    assert_eq!(take(&[0x8000_0040], &[0x8000_0070]), 0);
-    assert_eq!(take(&[0x8000_0040], &[0x8000_0030]), 33, "bit 6 is kept");
+    assert_eq!(take(&[0x8001_0F10, 0, 0], &[0x8001_0030, 0]), of(34), "a write's is 0");
+    assert_eq!(take(&[0x8002_0000, 0, 0], &[0x8002_0030, 1, 2]), of(0));
+    assert_eq!(take(&[0x8002_0000, 0, 0], &[0x8001_0030, 1]), of(34));
+    assert_eq!(take(&[0x8000_0040], &[0x8000_0070]), of(0));
+    assert_eq!(take(&[0x8000_0040], &[0x8000_0030]), of(33), "bit 6 is kept");
 }
 
 #[test]
 fn a_sender_from_a_discovery_answer() {
     let from = |words: &[u32]| Ours::discovered(&bytes_of(words));
-    let sender = |next| (0, Sender { next, waits: false });
-    let refused = |number| (number, Sender { next: 16, waits: false });
+    let sender = |next| (of(0), Sender { next, waits: false });
+    let refused = |number| (of(number), Sender { next: 16, waits: false });
     let limit = BYTES as u32;
     assert_eq!(from(&[0x8002_00B0, limit, 0]), sender(0));
     assert_eq!(from(&[0x8002_00B0, limit, 16]), sender(1));
@@ -166,7 +183,7 @@ fn a_sender_from_a_discovery_answer() {
     assert_eq!(from(&[0x8001_00B0, limit]), refused(34));
     assert_eq!(from(&[0x8002_00B0, limit]), refused(35));
     let (_, unusable) = refused(38);
-    assert_eq!(Ours::offer(unusable, &bytes_of(&[0x8001_0020, 0])), (37, unusable));
+    assert_eq!(Ours::offer(unusable, &bytes_of(&[0x8001_0020, 0])), (of(37), unusable));
 }
 
 #[test]
@@ -178,11 +195,11 @@ fn the_fixed_discovery_and_its_answers() {
     }
     let mut fresh = Bench::sheet();
     let answer = fresh.give_bytes(&discovery).unwrap();
-    assert_eq!(Ours::discovered(&bytes_of(&answer)), (0, Ours::fresh()));
+    assert_eq!(Ours::discovered(&bytes_of(&answer)), (of(0), Ours::fresh()));
     for tag in 0..16 {
         let answer = Bench::with_tag(tag).give_bytes(&discovery).unwrap();
         let sender = Sender { next: (tag + 1) % 16, waits: false };
-        assert_eq!(Ours::discovered(&bytes_of(&answer)), (0, sender));
+        assert_eq!(Ours::discovered(&bytes_of(&answer)), (of(0), sender));
     }
 }
 

@@ -1,7 +1,7 @@
 //! Two ends made of the calls of any ends and of buffers that stand beside them.
 
 use super::pair::{check_added, Told, TwoEnds};
-use crate::common::Ends;
+use crate::common::{Ends, Given};
 use charkhavo_host::limits::{BYTES, WORDS};
 use charkhavo_host::plain::{Addition, Sender, TagRecord};
 use std::marker::PhantomData;
@@ -15,10 +15,10 @@ pub struct Bare<E> {
     ends: PhantomData<E>,
 }
 
-fn result<T>((number, given): (u32, T)) -> Result<T, u32> {
-    match number {
+fn result<T>((refusal, given): Given<T>) -> Result<T, u32> {
+    match refusal.number {
         0 => Ok(given),
-        _ => Err(number),
+        number => Err(number),
     }
 }
 
@@ -65,8 +65,8 @@ impl<E: Ends> TwoEnds for Bare<E> {
         let begun = result(E::begin(&output, kind, self.sender.next, wide, false));
         let mut building = begun.expect("begun");
         for command in commands {
-            let (number, after) = E::add(&mut output, building, *command);
-            check_added(number);
+            let (refusal, after) = E::add(&mut output, building, *command);
+            check_added(refusal.number);
             building = after;
         }
         let closed = result(E::close(&mut output, building)).expect("closed");

@@ -11,7 +11,7 @@ pub struct Wrapped {
 }
 
 fn number(refusal: Refusal) -> u32 {
-    refusal.0
+    refusal.number
 }
 
 impl TwoEnds for Wrapped {

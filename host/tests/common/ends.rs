@@ -1,8 +1,12 @@
 //! The calls of both ends in the form that the libraries have: any records and buffers go in,
-//! the refusal's number (0 for none) and the record come out. One trait for all that implement
+//! the refusal (number 0 for none) and the record come out. One trait for all that implement
 //! the rules, so that one test serves them all.
 
 use charkhavo_host::plain::{Addition, Building, Sender, TagRecord};
+use charkhavo_host::Refusal;
+
+/// What a call gives: its refusal, of number 0 for none, and the rest.
+pub type Given<T> = (Refusal, T);
 
 pub trait Ends {
     fn serve(
@@ -11,21 +15,21 @@ pub trait Ends {
         output: &mut [u8],
         tags: &mut TagRecord,
         datagram: &[u8],
-    ) -> (u32, usize);
+    ) -> Given<usize>;
 
-    fn refusal(request: &[u8]) -> u32;
+    fn refusal(request: &[u8]) -> Refusal;
 
-    fn begin(output: &[u8], kind: u32, tag: u32, wide: bool, discovery: bool) -> (u32, Building);
-    fn add(output: &mut [u8], building: Building, addition: Addition) -> (u32, Building);
-    fn close(output: &mut [u8], building: Building) -> (u32, Building);
+    fn begin(output: &[u8], kind: u32, tag: u32, wide: bool, discovery: bool) -> Given<Building>;
+    fn add(output: &mut [u8], building: Building, addition: Addition) -> Given<Building>;
+    fn close(output: &mut [u8], building: Building) -> Given<Building>;
 
     fn discovery() -> [u8; 12];
     fn fresh() -> Sender;
-    fn discovered(answer: &[u8]) -> (u32, Sender);
-    fn offer(sender: Sender, request: &[u8]) -> (u32, Sender);
-    /// The number and the length to send.
-    fn send(sender: Sender, request: &[u8]) -> (u32, usize);
-    fn take(sender: Sender, request: &[u8], answer: &[u8]) -> (u32, Sender);
+    fn discovered(answer: &[u8]) -> Given<Sender>;
+    fn offer(sender: Sender, request: &[u8]) -> Given<Sender>;
+    /// The refusal and the length to send.
+    fn send(sender: Sender, request: &[u8]) -> Given<usize>;
+    fn take(sender: Sender, request: &[u8], answer: &[u8]) -> Given<Sender>;
 
     fn count(request: &[u8], answer: &[u8]) -> usize;
     /// 3 for a command that is not answered.

@@ -1,8 +1,9 @@
 //! The libraries as ends: the calls themselves, the records copied field by field.
 
-use super::ends::Ends;
+use super::ends::{Ends, Given};
 use charkhavo_host::ffi;
 use charkhavo_host::plain::{Addition, Building, Sender, TagRecord};
+use charkhavo_host::Refusal;
 
 pub struct Library;
 
@@ -13,30 +14,30 @@ impl Ends for Library {
         output: &mut [u8],
         tags: &mut TagRecord,
         datagram: &[u8],
-    ) -> (u32, usize) {
+    ) -> Given<usize> {
         let TagRecord { fresh, tag, words } = *tags;
         let mut record = ffi::TagRecord { fresh, tag, words };
-        let ffi::Sent { refusal, sent } = ffi::serve(memory, stored, output, &mut record, datagram);
+        let served = ffi::serve(memory, stored, output, &mut record, datagram);
         let ffi::TagRecord { fresh, tag, words } = record;
         *tags = TagRecord { fresh, tag, words };
-        (refusal.number, sent)
+        (refusal(served.refusal), served.sent)
     }
 
-    fn refusal(request: &[u8]) -> u32 {
-        ffi::refusal(request).number
+    fn refusal(request: &[u8]) -> Refusal {
+        refusal(ffi::refusal(request))
     }
 
-    fn begin(output: &[u8], kind: u32, tag: u32, wide: bool, discovery: bool) -> (u32, Building) {
+    fn begin(output: &[u8], kind: u32, tag: u32, wide: bool, discovery: bool) -> Given<Building> {
         built(ffi::begin(output, kind, tag, wide, discovery))
     }
 
-    fn add(output: &mut [u8], building: Building, addition: Addition) -> (u32, Building) {
+    fn add(output: &mut [u8], building: Building, addition: Addition) -> Given<Building> {
         let Addition { address, first, last, count, data } = addition;
         let asked = ffi::Asked { address, first, last, count };
         built(ffi::add(output, record(building), asked, data))
     }
 
-    fn close(output: &mut [u8], building: Building) -> (u32, Building) {
+    fn close(output: &mut [u8], building: Building) -> Given<Building> {
         built(ffi::close(output, record(building)))
     }
 
@@ -49,20 +50,20 @@ impl Ends for Library {
         Sender { next, waits }
     }
 
-    fn discovered(answer: &[u8]) -> (u32, Sender) {
+    fn discovered(answer: &[u8]) -> Given<Sender> {
         moved(ffi::discovered(answer))
     }
 
-    fn offer(sender: Sender, request: &[u8]) -> (u32, Sender) {
+    fn offer(sender: Sender, request: &[u8]) -> Given<Sender> {
         moved(ffi::offer(lent(sender), request))
     }
 
-    fn send(sender: Sender, request: &[u8]) -> (u32, usize) {
-        let ffi::Sending { refusal, length } = ffi::send(lent(sender), request);
-        (refusal.number, length)
+    fn send(sender: Sender, request: &[u8]) -> Given<usize> {
+        let sending = ffi::send(lent(sender), request);
+        (refusal(sending.refusal), sending.length)
     }
 
-    fn take(sender: Sender, request: &[u8], answer: &[u8]) -> (u32, Sender) {
+    fn take(sender: Sender, request: &[u8], answer: &[u8]) -> Given<Sender> {
         moved(ffi::take(lent(sender), request, answer))
     }
 
@@ -80,15 +81,20 @@ impl Ends for Library {
     }
 }
 
+fn refusal(refused: ffi::Refused) -> Refusal {
+    let ffi::Refused { number, at } = refused;
+    Refusal { number, at }
+}
+
 fn record(building: Building) -> ffi::Building {
     let Building { kind, tag, wide, discovery, words, last, answer, closed } = building;
     ffi::Building { kind, tag, wide, discovery, words, last, answer, closed }
 }
 
-fn built(built: ffi::Built) -> (u32, Building) {
+fn built(built: ffi::Built) -> Given<Building> {
     let ffi::Building { kind, tag, wide, discovery, words, last, answer, closed } = built.building;
     let building = Building { kind, tag, wide, discovery, words, last, answer, closed };
-    (built.refusal.number, building)
+    (refusal(built.refusal), building)
 }
 
 fn lent(sender: Sender) -> ffi::Sender {
@@ -96,7 +102,7 @@ fn lent(sender: Sender) -> ffi::Sender {
     ffi::Sender { next, waits }
 }
 
-fn moved(moved: ffi::Moved) -> (u32, Sender) {
+fn moved(moved: ffi::Moved) -> Given<Sender> {
     let ffi::Sender { next, waits } = moved.sender;
-    (moved.refusal.number, Sender { next, waits })
+    (refusal(moved.refusal), Sender { next, waits })
 }

@@ -15,7 +15,17 @@ use crate::Ours;
 use charkhavo_host::limits::{BYTES, WORDS};
 use charkhavo_host::plain::TagRecord;
 pub use charkhavo_host::random::bytes_of;
-pub use ends::Ends;
+use charkhavo_host::Refusal;
+pub use ends::{Ends, Given};
+
+/// A refusal at word 0, and one at a later word.
+pub fn of(number: u32) -> Refusal {
+    Refusal::of(number)
+}
+
+pub fn at(number: u32, word: usize) -> Refusal {
+    Refusal::of(number).at_word(word)
+}
 
 pub fn words_of(bytes: &[u8]) -> Vec<u32> {
     bytes.as_chunks().0.iter().map(|word| u32::from_le_bytes(*word)).collect()
@@ -49,21 +59,21 @@ impl Bench {
         Bench { tags: TagRecord { fresh: false, tag, words: 1 }, ..Bench::sheet() }
     }
 
-    /// Serves a datagram: the words sent, or the refusal's number.
-    pub fn give(&mut self, words: &[u32]) -> Result<Vec<u32>, u32> {
+    /// Serves a datagram: the words sent, or the refusal.
+    pub fn give(&mut self, words: &[u32]) -> Result<Vec<u32>, Refusal> {
         self.give_bytes(&bytes_of(words))
     }
 
-    pub fn give_bytes(&mut self, datagram: &[u8]) -> Result<Vec<u32>, u32> {
+    pub fn give_bytes(&mut self, datagram: &[u8]) -> Result<Vec<u32>, Refusal> {
         let before = self.clone();
         let Bench { memory, stored, output, tags } = self;
         let (refusal, sent) = Ours::serve(memory, stored, output, tags, datagram);
-        match refusal {
+        match refusal.number {
             1 => {}
             2..=10 => assert_eq!(Ours::refusal(datagram), refusal, "the loader says the same"),
-            _ => assert_eq!(Ours::refusal(datagram), 0),
+            _ => assert_eq!(Ours::refusal(datagram), Refusal::of(0)),
         }
-        if refusal != 0 {
+        if refusal.number != 0 {
             assert_eq!(sent, 0);
             assert_eq!(*self, before, "a refusal changes nothing");
             return Err(refusal);

@@ -17,6 +17,9 @@ pub struct Request {
     pub commands: Vec<Command>,
 }
 
+/// A refusal: its number, and the index of the header word being looked at.
+pub type Wrong = (u32, usize);
+
 fn bits(word: u32, high: u32, low: u32) -> u32 {
     ((u64::from(word) >> low) % (1 << (high - low + 1))) as u32
 }
@@ -27,16 +30,16 @@ fn words_in(bytes: &[u8]) -> Vec<u32> {
 }
 
 /// The walk: refusals 2 to 10.
-pub fn read(bytes: &[u8]) -> Result<Request, u32> {
+pub fn read(bytes: &[u8]) -> Result<Request, Wrong> {
     if bytes.is_empty() || !bytes.len().is_multiple_of(4) || bytes.len() > 4 * WORDS {
-        return Err(2);
+        return Err((2, 0));
     }
     let words = words_in(bytes);
     let byte0 = bits(words[0], 7, 0);
-    let commands = read_commands(byte0, &words)?;
+    let commands = read_commands(byte0, 0, &words)?;
     let answer: usize = commands.iter().map(|command| 1 + ok_count(byte0, command)).sum();
     if answer > WORDS {
-        Err(10)
+        Err((10, 0))
     } else {
         Ok(Request { byte0, commands })
     }
@@ -50,34 +53,35 @@ fn ok_count(byte0: u32, command: &Command) -> usize {
     }
 }
 
-fn read_commands(byte0: u32, words: &[u32]) -> Result<Vec<Command>, u32> {
-    let Some(header) = words.first().copied() else { return Err(3) };
+/// The commands from word `at` on, `words` being that word and all behind it.
+fn read_commands(byte0: u32, at: usize, words: &[u32]) -> Result<Vec<Command>, Wrong> {
+    let Some(header) = words.first().copied() else { return Err((3, at)) };
     let (kind, count) = (bits(header, 5, 4), bits(header, 27, 16) as usize);
     let (first, last) = (bits(header, 11, 8), bits(header, 15, 12));
     if bits(header, 7, 0) != byte0 {
-        return Err(4);
+        return Err((4, at));
     }
     if kind == 3 {
-        return Err(5);
+        return Err((5, at));
     }
     if bits(header, 30, 28) != 0 {
-        return Err(6);
+        return Err((6, at));
     }
     if (kind == 0 && count > 2) || (kind != 0 && count == 0) {
-        return Err(7);
+        return Err((7, at));
     }
     let place = 1 + if kind == 0 { 0 } else { 1 + bits(header, 6, 6) as usize };
     if words.len() < place {
-        return Err(3);
+        return Err((3, at));
     }
     let address =
         words[1..place].iter().rev().fold(0, |high, word| (high << 32) + u64::from(*word));
     if kind == 1 && !enables_allowed(count, address, first, last) {
-        return Err(8);
+        return Err((8, at));
     }
     let data = if kind == 2 { 0 } else { count };
     if words.len() < place + data {
-        return Err(3);
+        return Err((3, at));
     }
     let rest = &words[place + data..];
     let command = Command {
@@ -87,9 +91,9 @@ fn read_commands(byte0: u32, words: &[u32]) -> Result<Vec<Command>, u32> {
         data: words[place..place + data].to_vec(),
     };
     if bits(header, 31, 31) == 1 {
-        return if rest.is_empty() { Ok(vec![command]) } else { Err(9) };
+        return if rest.is_empty() { Ok(vec![command]) } else { Err((9, at)) };
     }
-    let mut commands = read_commands(byte0, rest)?;
+    let mut commands = read_commands(byte0, at + place + data, rest)?;
     commands.insert(0, command);
     Ok(commands)
 }
@@ -155,7 +159,7 @@ fn carried_command(
 }
 
 /// The controller's call: refusal and length sent, everything lent as it is then.
-pub fn serve(lent: &mut Lent) -> (u32, usize) {
+pub fn serve(lent: &mut Lent) -> (Wrong, usize) {
     let Lent { memory, stored, output, tags, datagram } = lent;
     let lengths = !memory.is_empty()
         && memory.len() <= 16_384
@@ -163,7 +167,7 @@ pub fn serve(lent: &mut Lent) -> (u32, usize) {
         && output.len() >= 4 * WORDS;
     let record = tags.fresh || (tags.tag < 16 && tags.words > 0 && tags.words <= WORDS);
     if !lengths || !record {
-        return (1, 0);
+        return ((1, 0), 0);
     }
     let request = match read(datagram) {
         Ok(request) => request,
@@ -173,7 +177,7 @@ pub fn serve(lent: &mut Lent) -> (u32, usize) {
     let repeat = !discovery && !tags.fresh && tag == tags.tag;
     let new = !discovery && (tags.fresh || tag == (tags.tag + 1) % 16);
     if !discovery && !repeat && !new {
-        return (11, 0);
+        return ((11, 0), 0);
     }
     let answer = match repeat {
         true => stored[..tags.words].to_vec(),
@@ -185,21 +189,21 @@ pub fn serve(lent: &mut Lent) -> (u32, usize) {
     }
     let sent: Vec<u8> = answer.iter().flat_map(|word| word.to_le_bytes()).collect();
     output[..sent.len()].copy_from_slice(&sent);
-    (0, sent.len())
+    ((0, 0), sent.len())
 }
 
 /// Status and data place, in bytes, of each answered command: 32 to 35.
-pub fn judge(request: &Request, answer: &[u8]) -> Result<Vec<(u32, usize, usize)>, u32> {
+pub fn judge(request: &Request, answer: &[u8]) -> Result<Vec<(u32, usize, usize)>, Wrong> {
     if answer.is_empty() || !answer.len().is_multiple_of(4) || answer.len() > 4 * WORDS {
-        return Err(32);
+        return Err((32, 0));
     }
     let words = words_in(answer);
     if bits(words[0], 7, 0) != request.byte0 | 0x30 {
-        return Err(33);
+        return Err((33, 0));
     }
     let (mut outcome, mut at) = (Vec::new(), 0);
     for (k, command) in request.commands.iter().enumerate() {
-        let Some(header) = words.get(at).copied() else { return Err(35) };
+        let Some(header) = words.get(at).copied() else { return Err((35, at)) };
         let (status, count) = (bits(header, 11, 8), bits(header, 27, 16) as usize);
         let right = if status == 0 { ok_count(request.byte0, command) } else { 0 };
         if bits(header, 7, 0) != request.byte0 | 0x30
@@ -208,69 +212,70 @@ pub fn judge(request: &Request, answer: &[u8]) -> Result<Vec<(u32, usize, usize)
             || status >= 3
             || count != right
         {
-            return Err(34);
+            return Err((34, at));
         }
         outcome.push((status, 4 * (at + 1), 4 * (at + 1 + count)));
-        at += 1 + count;
+        let end = at + 1 + count;
         let belongs = k + 1 == request.commands.len() || status != 0;
-        if at > words.len() || (bits(header, 31, 31) == 1) != belongs {
-            return Err(35);
+        if end > words.len() || (bits(header, 31, 31) == 1) != belongs {
+            return Err((35, at));
         }
         if belongs {
-            return if at == words.len() { Ok(outcome) } else { Err(35) };
+            return if end == words.len() { Ok(outcome) } else { Err((35, at)) };
         }
+        at = end;
     }
     unreachable!("LAST belongs on the last command's header")
 }
 
 /// 31, with the tag clause if a tag is given.
-pub fn sendable(bytes: &[u8], tag: Option<u32>) -> Result<Request, u32> {
-    let request = read(bytes).map_err(|_| 31u32)?;
+pub fn sendable(bytes: &[u8], tag: Option<u32>) -> Result<Request, Wrong> {
+    let request = read(bytes).map_err(|(_, at)| (31, at))?;
     let tagged = tag.is_none_or(|tag| tag == bits(request.byte0, 3, 0));
     if bits(request.byte0, 7, 7) == 1 || !tagged {
-        Err(31)
+        Err((31, 0))
     } else {
         Ok(request)
     }
 }
 
-pub fn offer(sender: Sender, request: &[u8]) -> Result<Sender, u32> {
+pub fn offer(sender: Sender, request: &[u8]) -> Result<Sender, Wrong> {
     if sender.next > 15 {
-        return Err(37);
+        return Err((37, 0));
     }
     if sender.waits {
-        return Err(36);
+        return Err((36, 0));
     }
     sendable(request, Some(sender.next))?;
     Ok(Sender { next: sender.next, waits: true })
 }
 
-pub fn send(sender: Sender, request: &[u8]) -> Result<Request, u32> {
+pub fn send(sender: Sender, request: &[u8]) -> Result<Request, Wrong> {
     if sender.next > 15 {
-        return Err(37);
+        return Err((37, 0));
     }
     if !sender.waits {
-        return Err(30);
+        return Err((30, 0));
     }
     sendable(request, Some(sender.next))
 }
 
-pub fn take(sender: Sender, request: &[u8], answer: &[u8]) -> Result<Sender, u32> {
+pub fn take(sender: Sender, request: &[u8], answer: &[u8]) -> Result<Sender, Wrong> {
     judge(&send(sender, request)?, answer)?;
     Ok(Sender { next: (sender.next + 1) % 16, waits: false })
 }
 
 /// The next tag that an answer to the fixed discovery tells.
-pub fn discovered(answer: &[u8]) -> Result<u32, u32> {
+pub fn discovered(answer: &[u8]) -> Result<u32, Wrong> {
     let discovery = [0x8002_0080, 4 * WORDS as u32, 0];
     let bytes: Vec<u8> = discovery.iter().flat_map(|word| word.to_le_bytes()).collect();
     let outcome = judge(&read(&bytes)?, answer)?;
     if outcome[0].0 != 0 {
-        return Err(38);
+        return Err((38, 0));
     }
     let word = words_in(answer)[2];
     if bits(word, 31, 5) != 0 || (bits(word, 4, 4) == 0 && bits(word, 3, 0) != 0) {
-        return Err(38);
+        return Err((38, 0));
     }
     Ok(if bits(word, 4, 4) == 1 { (bits(word, 3, 0) + 1) % 16 } else { 0 })
 }

@@ -1,12 +1,13 @@
 //! The slow second reading of document 01 as ends.
 
-use super::ends::{Ends, ABSENT};
-use super::naive;
+use super::ends::{Ends, Given, ABSENT};
+use super::naive::{self, Wrong};
 use super::naive_building::{added, refused_21, Sequences};
 use charkhavo_host::limits::WORDS;
 use charkhavo_host::plain::{Addition, Building, Sender, TagRecord};
 use charkhavo_host::random::bytes_of;
 use charkhavo_host::random::controller::Lent;
+use charkhavo_host::Refusal;
 use std::sync::LazyLock;
 
 pub struct Naive;
@@ -21,7 +22,7 @@ impl Ends for Naive {
         output: &mut [u8],
         tags: &mut TagRecord,
         datagram: &[u8],
-    ) -> (u32, usize) {
+    ) -> Given<usize> {
         let mut lent = Lent {
             memory: memory.to_vec(),
             stored: stored.to_vec(),
@@ -29,49 +30,49 @@ impl Ends for Naive {
             tags: *tags,
             datagram: datagram.to_vec(),
         };
-        let given = naive::serve(&mut lent);
+        let (wrong, sent) = naive::serve(&mut lent);
         memory.copy_from_slice(&lent.memory);
         stored.copy_from_slice(&lent.stored);
         output.copy_from_slice(&lent.output);
         *tags = lent.tags;
-        given
+        (refusal(wrong), sent)
     }
 
-    fn refusal(request: &[u8]) -> u32 {
-        naive::read(request).map_or_else(|number| number, |_| 0)
+    fn refusal(request: &[u8]) -> Refusal {
+        refusal(naive::read(request).err().unwrap_or_default())
     }
 
-    fn begin(output: &[u8], kind: u32, tag: u32, wide: bool, discovery: bool) -> (u32, Building) {
+    fn begin(output: &[u8], kind: u32, tag: u32, wide: bool, discovery: bool) -> Given<Building> {
         let begun = Building { kind, tag, wide, discovery, ..Building::EMPTY };
         match refused_21(&SEQUENCES, output, &begun) {
-            true => (21, Building::EMPTY),
-            false => (0, begun),
+            true => (Refusal::of(21), Building::EMPTY),
+            false => (Refusal::of(0), begun),
         }
     }
 
-    fn add(output: &mut [u8], building: Building, addition: Addition) -> (u32, Building) {
+    fn add(output: &mut [u8], building: Building, addition: Addition) -> Given<Building> {
         if refused_21(&SEQUENCES, output, &building) {
-            return (21, building);
+            return (Refusal::of(21), building);
         }
         if building.closed {
-            return (22, building);
+            return (Refusal::of(22), building);
         }
         let Addition { address, first, last, count, data } = addition;
         match added(&building, address, (first, last), count, data) {
-            Ok(words) => (0, grown(output, building, &words)),
-            Err(number) => (number, building),
+            Ok(words) => (Refusal::of(0), grown(output, building, &words)),
+            Err(number) => (Refusal::of(number), building),
         }
     }
 
-    fn close(output: &mut [u8], building: Building) -> (u32, Building) {
+    fn close(output: &mut [u8], building: Building) -> Given<Building> {
         if refused_21(&SEQUENCES, output, &building) {
-            return (21, building);
+            return (Refusal::of(21), building);
         }
         if building.closed || building.words == 0 {
-            return (22, building);
+            return (Refusal::of(22), building);
         }
         output[4 * building.last + 3] |= 0x80;
-        (0, Building { closed: true, ..building })
+        (Refusal::of(0), Building { closed: true, ..building })
     }
 
     fn discovery() -> [u8; 12] {
@@ -83,23 +84,23 @@ impl Ends for Naive {
         Sender { next: 0, waits: false }
     }
 
-    fn discovered(answer: &[u8]) -> (u32, Sender) {
+    fn discovered(answer: &[u8]) -> Given<Sender> {
         let next = naive::discovered(answer);
         sender(next.map(|next| Sender { next, waits: false }), Sender { next: 16, waits: false })
     }
 
-    fn offer(before: Sender, request: &[u8]) -> (u32, Sender) {
+    fn offer(before: Sender, request: &[u8]) -> Given<Sender> {
         sender(naive::offer(before, request), before)
     }
 
-    fn send(sender: Sender, request: &[u8]) -> (u32, usize) {
+    fn send(sender: Sender, request: &[u8]) -> Given<usize> {
         match naive::send(sender, request) {
-            Ok(_) => (0, request.len()),
-            Err(number) => (number, 0),
+            Ok(_) => (Refusal::of(0), request.len()),
+            Err(wrong) => (refusal(wrong), 0),
         }
     }
 
-    fn take(before: Sender, request: &[u8], answer: &[u8]) -> (u32, Sender) {
+    fn take(before: Sender, request: &[u8], answer: &[u8]) -> Given<Sender> {
         sender(naive::take(before, request, answer), before)
     }
 
@@ -132,10 +133,14 @@ fn grown(output: &mut [u8], building: Building, words: &[u32]) -> Building {
     }
 }
 
-fn sender(after: Result<Sender, u32>, otherwise: Sender) -> (u32, Sender) {
+fn refusal((number, at): Wrong) -> Refusal {
+    Refusal::of(number).at_word(at)
+}
+
+fn sender(after: Result<Sender, Wrong>, otherwise: Sender) -> Given<Sender> {
     match after {
-        Ok(sender) => (0, sender),
-        Err(number) => (number, otherwise),
+        Ok(sender) => (Refusal::of(0), sender),
+        Err(wrong) => (refusal(wrong), otherwise),
     }
 }
 

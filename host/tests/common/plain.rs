@@ -1,6 +1,6 @@
 //! The ordinary implementation as ends.
 
-use super::ends::{Ends, ABSENT};
+use super::ends::{Ends, Given, ABSENT};
 use charkhavo_host::plain::{self, message, outcome, sender};
 use charkhavo_host::plain::{Addition, Building, Sender, TagRecord};
 use charkhavo_host::Refusal;
@@ -14,28 +14,28 @@ impl Ends for Plain {
         output: &mut [u8],
         tags: &mut TagRecord,
         datagram: &[u8],
-    ) -> (u32, usize) {
+    ) -> Given<usize> {
         let served = plain::serve(memory, stored, output, tags, datagram);
         (served.refusal, served.sent)
     }
 
-    fn refusal(request: &[u8]) -> u32 {
-        number(&message::walk(request))
+    fn refusal(request: &[u8]) -> Refusal {
+        refusal(&message::walk(request))
     }
 
-    fn begin(output: &[u8], kind: u32, tag: u32, wide: bool, discovery: bool) -> (u32, Building) {
+    fn begin(output: &[u8], kind: u32, tag: u32, wide: bool, discovery: bool) -> Given<Building> {
         let begun = Building::begin(output, kind, tag, wide, discovery);
-        (number(&begun), begun.unwrap_or(Building::EMPTY))
+        (refusal(&begun), begun.unwrap_or(Building::EMPTY))
     }
 
-    fn add(output: &mut [u8], mut building: Building, addition: Addition) -> (u32, Building) {
+    fn add(output: &mut [u8], mut building: Building, addition: Addition) -> Given<Building> {
         let added = building.add(output, addition);
-        (number(&added), building)
+        (refusal(&added), building)
     }
 
-    fn close(output: &mut [u8], mut building: Building) -> (u32, Building) {
+    fn close(output: &mut [u8], mut building: Building) -> Given<Building> {
         let closed = building.close(output);
-        (number(&closed), building)
+        (refusal(&closed), building)
     }
 
     fn discovery() -> [u8; 12] {
@@ -46,24 +46,24 @@ impl Ends for Plain {
         Sender::fresh()
     }
 
-    fn discovered(answer: &[u8]) -> (u32, Sender) {
+    fn discovered(answer: &[u8]) -> Given<Sender> {
         let sender = Sender::from_discovery(answer);
-        (number(&sender), sender.unwrap_or(Sender::UNUSABLE))
+        (refusal(&sender), sender.unwrap_or(Sender::UNUSABLE))
     }
 
-    fn offer(mut sender: Sender, request: &[u8]) -> (u32, Sender) {
+    fn offer(mut sender: Sender, request: &[u8]) -> Given<Sender> {
         let offered = sender.offer(request);
-        (number(&offered), sender)
+        (refusal(&offered), sender)
     }
 
-    fn send(sender: Sender, request: &[u8]) -> (u32, usize) {
+    fn send(sender: Sender, request: &[u8]) -> Given<usize> {
         let sent = sender.send(request);
-        (number(&sent), sent.map_or(0, <[u8]>::len))
+        (refusal(&sent), sent.map_or(0, <[u8]>::len))
     }
 
-    fn take(mut sender: Sender, request: &[u8], answer: &[u8]) -> (u32, Sender) {
+    fn take(mut sender: Sender, request: &[u8], answer: &[u8]) -> Given<Sender> {
         let taken = sender.take(request, answer);
-        (number(&taken), sender)
+        (refusal(&taken), sender)
     }
 
     fn count(request: &[u8], answer: &[u8]) -> usize {
@@ -80,6 +80,6 @@ impl Ends for Plain {
     }
 }
 
-fn number<T>(result: &Result<T, Refusal>) -> u32 {
-    result.as_ref().map_or_else(|refusal| refusal.0, |_| 0)
+fn refusal<T>(result: &Result<T, Refusal>) -> Refusal {
+    result.as_ref().map_or_else(|refusal| *refusal, |_| Refusal::of(0))
 }

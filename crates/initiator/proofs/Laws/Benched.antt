@@ -12,6 +12,6 @@ use Rattle.initiator.specs.BenchSheet.{Line, Right, benchOut, benchSheet
 pub benched : BenchHolds
 unfolding bytesOf put putWords kindNo byte0From headerFrom patternOk addressIn commandWords All startOk byte0By freshOk writesOk someOk reachable commandBy countFits fieldsOk narrowOk sizeBy replyBy roomFits commandFault opened begun addFault closeFault grown shut lastSet added addedTo closed closedTo benchOut benchSheet
 benched = (
-  record { number = refl; words = refl },
-  (record { number = refl; words = refl }, (record { number = refl; words = refl }, (record { number = refl; words = refl }, tt))),
+  record { refused = refl; words = refl },
+  (record { refused = refl; words = refl }, (record { refused = refl; words = refl }, (record { refused = refl; words = refl }, tt))),
 )

@@ -1,7 +1,7 @@
 -- What a record and a command that nothing is wrong with are like. The proofs of `build`, of reachability and of what is built
 -- cite these. Assumes nothing.
 use Prim.Native.Nat.{ℕ, _+_, _<_, _≤_}
-use mathlib.Core.Path.{_≡_, refl, ap}
+use mathlib.Core.Path.{_≡_, refl}
 use mathlib.Core.Bool.{Bool, true, false, not, cond, _&&_, and-eq-true-iff}
 use native.Mathlib.Omega.{arith}
 use borrow.Author.Tests.{ltb-true, leb-true, eqb-true, eqb-false, ne-eqb, not-true}
@@ -9,9 +9,8 @@ use lib.Dec.{eqb}
 use Rattle.message.specs.declared.header.Kind.{Kind}
 use Rattle.message.specs.Limits.{limit, limitBytes}
 use Rattle.message.specs.Header.{kindOf, wideOf, addressWords}
-use Rattle.message.specs.declared.refusal.Refusal.{Refusal}
 use Rattle.message.specs.Walk.{refusal, countOk, patternOk}
-use Rattle.message.proofs.Laws.Faults.{passed}
+use Rattle.message.proofs.Laws.Faults.{passed, number-is}
 use Rattle.initiator.specs.declared.building.Building.{Building}
 use Rattle.initiator.specs.declared.asked.Asked.{Asked}
 use Rattle.initiator.specs.Building.{startOk, byte0By, freshOk, shapeOk, someOk, reachable}
@@ -24,7 +23,7 @@ both a b e = and-eq-true-iff a b .0 e
 
 -- a call that was not refused
 pub unrefused : {n : ℕ} → refusal n ≡ refusal 0 → n ≡ 0
-unrefused e = ap (λ (r : Refusal). r .number) e
+unrefused e = number-is e
 
 -- a number that is not 0
 pub off-zero : {n : ℕ} → eqb n 0 ≡ false → n ≡ 0 → ⊥

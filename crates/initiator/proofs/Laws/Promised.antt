@@ -30,9 +30,9 @@ use Rattle.initiator.proofs.Laws.Sending.{answer-some}
 -- a refusal leaves the sender as it was
 pub offer-keeps : (s : Sender) (message : List ℕ) → KeepsRefused s (offerOf s message)
 unfolding offerOf
-offer-keeps s message z = go (eqb (offerFault s message) 0) refl
+offer-keeps s message z = go (eqb (offerFault s message .number) 0) refl
   where
-    go : (b : Bool) → eqb (offerFault s message) 0 ≡ b → cond b (record { next = s .next; waits = true }) s ≡ s
+    go : (b : Bool) → eqb (offerFault s message .number) 0 ≡ b → cond b (record { next = s .next; waits = true }) s ≡ s
     go true e = absurd (z (eqb-true _ _ e))
     go false e = refl
 
@@ -43,29 +43,29 @@ taken-keeps s (Means items) z = absurd (z refl)
 module _ (s : Sender) (message answer : List ℕ) where
   pub take-keeps : KeepsRefused s (takeOf s message answer)
   unfolding takeOf
-  take-keeps z = go (eqb (sendFault s message) 0) z
+  take-keeps z = go (eqb (sendFault s message .number) 0) z
     where
-      go : (b : Bool) → KeepsRefused s (cond b (takenBy s (judgedBy (read message) answer)) (record { refusal = refusal (sendFault s message); sender = s }))
+      go : (b : Bool) → KeepsRefused s (cond b (takenBy s (judgedBy (read message) answer)) (record { refusal = sendFault s message; sender = s }))
       go true z = taken-keeps s (judgedBy (read message) answer) z
       go false z = refl
 
   -- past the sender's own refusals, the answer decides
-  pub take-judged : sendFault s message ≡ 0 → takeOf s message answer ≡ takenBy s (judgedBy (read message) answer)
+  pub take-judged : sendFault s message .number ≡ 0 → takeOf s message answer ≡ takenBy s (judgedBy (read message) answer)
   unfolding takeOf
   take-judged e = rw (eq-eqb _ _ e)
 
   -- an accepted answer was let by both
   record Let : Type 0 where
-    own : sendFault s message ≡ 0
+    own : sendFault s message .number ≡ 0
     items : List Answered
     told : judgedBy (read message) answer ≡ Means items
 
   let-by : takeOf s message answer .refusal .number ≡ 0 → Let
   unfolding takeOf
-  let-by z = go (eqb (sendFault s message) 0) refl (judgedBy (read message) answer) refl z
+  let-by z = go (eqb (sendFault s message .number) 0) refl (judgedBy (read message) answer) refl z
     where
-      go : (b : Bool) → eqb (sendFault s message) 0 ≡ b → (p : Reading (List Answered)) → judgedBy (read message) answer ≡ p
-          → cond {A = Moved} b (takenBy s p) (record { refusal = refusal (sendFault s message); sender = s }) .refusal .number ≡ 0 → Let
+      go : (b : Bool) → eqb (sendFault s message .number) 0 ≡ b → (p : Reading (List Answered)) → judgedBy (read message) answer ≡ p
+          → cond {A = Moved} b (takenBy s p) (record { refusal = sendFault s message; sender = s }) .refusal .number ≡ 0 → Let
       go false e p q z = absurd (eqb-false _ _ e z)
       go true e (Wrong r) q z = let t : 0 < r .number = rw q at (answer-some (read message) answer) in absurd (omega arith)
       go true e (Means items) q z = record { own = eqb-true _ _ e; items = items; told = q }

@@ -1,6 +1,6 @@
 -- The sender's checks, one by one. The proofs of the sender's functions cite these. Assumes nothing.
 use Prim.Native.Nat.{ℕ, _+_, _%_, _<_, _≤_}
-use mathlib.Core.Path.{_≡_, refl, sym, ap, _∙_}
+use mathlib.Core.Path.{_≡_, refl, sym, _∙_}
 use mathlib.Core.Bool.{Bool, true, false, cond}
 use mathlib.Core.List.{List}
 use native.Mathlib.Omega.{arith}
@@ -9,23 +9,28 @@ use lib.Dec.{ltb, eqb}
 use lib.ListN.{getD, length}
 use Rattle.message.specs.declared.refusal.Refusal.{Refusal}
 use Rattle.message.specs.Header.{tagOf, discoveryOf}
-use Rattle.message.specs.Walk.{refusal}
+use Rattle.message.specs.Walk.{refusedAt, refusal, unless}
 use Rattle.message.specs.Request.{Request, Reading, Wrong, Means, refusalIn, read}
 use Rattle.message.specs.Answer.{Answered, judge}
-use Rattle.message.proofs.Laws.Faults.{passed}
+use Rattle.message.proofs.Laws.Faults.{number-is}
 use Rattle.message.proofs.Laws.Going.{read-first}
 use Rattle.message.proofs.Laws.Looking.{Some, judge-some}
 use Rattle.initiator.specs.declared.sender.Sender.{Sender}
 use Rattle.initiator.specs.declared.sender.Moved.{Moved}
 use Rattle.initiator.specs.declared.outcome.Outcome.{Outcome}
 use Rattle.initiator.specs.Outcome.{judgedBy, toldOf, outcomeOf}
-use Rattle.initiator.specs.Sender.{asksAs, sendFault, takenBy}
+use Rattle.initiator.specs.Sender.{asksAs, askFault, sendFault, takenBy}
 
 -- 31 by its clauses
 module _ (next : ℕ) (message : List ℕ) where
   pub asks-wrong : (r : Refusal) → read message ≡ Wrong r → false ≡ asksAs next (read message)
   unfolding asksAs
   asks-wrong r e = rw e
+
+  -- at the index of what is wrong with the request
+  pub fault-wrong : (r : Refusal) → read message ≡ Wrong r → refusedAt 31 (r .at) ≡ askFault next (read message)
+  unfolding asksAs askFault
+  fault-wrong r e = rw e
 
   module _ (r : Request) (is : read message ≡ Means r) (byte0 : ℕ) (first : byte0 ≡ getD message 0 0) where
     byte-is : byte0 ≡ r .byte0
@@ -39,10 +44,19 @@ module _ (next : ℕ) (message : List ℕ) where
     unfolding asksAs
     asks-tag d = rw (is, ← byte-is, d)
 
+    -- at 0, or no refusal
+    pub fault-right : {b : Bool} → b ≡ asksAs next (read message) → unless b (refusal 31) (refusal 0) ≡ askFault next (read message)
+    unfolding askFault
+    fault-right e = rw (e, is)
+
 -- a send that is not refused has an allowed next tag
-pub send-next : (s : Sender) (message : List ℕ) → sendFault s message ≡ 0 → s .next < 16
+pub send-next : (s : Sender) (message : List ℕ) → sendFault s message .number ≡ 0 → s .next < 16
 unfolding sendFault
-send-next s message e = ltb-true _ _ (passed (ltb (s .next) 16) 37 _ (omega arith) e .0)
+send-next s message e = go (ltb (s .next) 16) refl e
+  where
+    go : (b : Bool) → ltb (s .next) 16 ≡ b → unless b (refusal 37) (unless (s .waits) (refusal 30) (askFault (s .next) (read message))) .number ≡ 0 → s .next < 16
+    go true z x = ltb-true _ _ z
+    go false z x = absurd (omega arith)
 
 -- an answer is taken exactly if it tells no refusal
 pub answer-some : (p : Reading Request) (answer : List ℕ) → Some (judgedBy p answer)
@@ -71,9 +85,9 @@ module _ (s : Sender) where
 
     pub take-wrong : {r : Refusal} → r ≡ outcomeOf message answer 0 .refusal → (r .number ≡ 0 → ⊥) → record { refusal = r; sender = s } ≡ takenBy s (judgedBy (read message) answer)
     take-wrong e z =
-        rw (e, refusal-is) (taken-wrong (judgedBy (read message) answer) (answer-some (read message) answer) (λ q. z (ap (λ (x : Refusal). x .number) (e ∙ refusal-is) ∙ q)))
+        rw (e, refusal-is) (taken-wrong (judgedBy (read message) answer) (answer-some (read message) answer) (λ q. z (number-is (e ∙ refusal-is) ∙ q)))
 
     pub take-right : {r : Refusal} → r ≡ outcomeOf message answer 0 .refusal → r .number ≡ 0
         → record { refusal = r; sender = record { next = (s .next + 1) % 16; waits = false } } ≡ takenBy s (judgedBy (read message) answer)
     take-right e z =
-        rw (e, refusal-is) (taken-right (judgedBy (read message) answer) (answer-some (read message) answer) (sym (ap (λ (x : Refusal). x .number) (e ∙ refusal-is)) ∙ z))
+        rw (e, refusal-is) (taken-right (judgedBy (read message) answer) (answer-some (read message) answer) (sym (number-is (e ∙ refusal-is)) ∙ z))

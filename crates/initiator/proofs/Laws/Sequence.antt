@@ -13,13 +13,13 @@ use Rattle.message.specs.declared.header.Kind.{Kind}
 use Rattle.message.specs.declared.header.Kind.the-variants.{Nop, Write, Read, Response}
 use Rattle.message.specs.Limits.{limit, limitBytes}
 use Rattle.message.specs.Header.{kindOf, wideOf, addressWords, dataWords, headerFrom}
-use Rattle.message.specs.Walk.{refusal, enablesOk}
-use Rattle.message.specs.Request.{Command, Request, written, replies, addressIn, commandWords, requestWords, All, FitsCommand, Fits}
+use Rattle.message.specs.Walk.{refusedAt, refusal, enablesOk}
+use Rattle.message.specs.Request.{Command, Request, Wrong, none, written, replies, addressIn, commandWords, requestWords, All, FitsCommand, Fits}
 use Rattle.message.specs.Refusals.{openWords}
 use Rattle.message.proofs.Laws.Headers.{byte0-lt}
-use Rattle.message.proofs.Laws.Round.{read-written}
+use Rattle.message.proofs.Laws.Round.{command-long, read-written}
 use Rattle.message.proofs.Laws.Exactly.{counted-asks}
-use Rattle.message.proofs.Laws.Pieces.{header-last, header-low, command-pieces, command-long, written-is, open-more, request-more, replies-more, all-more, all-none, none-more, open-none, replies-none, open-refused}
+use Rattle.message.proofs.Laws.Pieces.{header-last, header-low, command-pieces, written-is, open-more, request-more, replies-more, all-more, all-none, none-more, open-none, replies-none, open-refused}
 use Rattle.initiator.specs.declared.building.Building.{Building}
 use Rattle.initiator.specs.declared.asked.Asked.{Asked}
 use Rattle.initiator.specs.Building.{startOk, byte0By}
@@ -264,14 +264,15 @@ stands : {start : List ℕ} {cs : List Command} {b : Building} {out : List ℕ} 
 stands {start} (begins kind tag wide discovery e) = stands-first start kind tag wide discovery e
 stands (adds s asked payload l e) = stands-more (stands s) asked payload l e
 
--- not closed: 2 with nothing added, else 3
+-- not closed: 2 with nothing added, else 3 behind its words
 open-read : {start : List ℕ} {cs : List Command} {b : Building} {out : List ℕ} → Stands start cs b out → sent b out ≡ bytesOf (openWords (byte0By b) cs)
 open-read {start} {cs} {b} s = rw (s .is) (ap (λ (n : ℕ). take (4 * n) (putWords start 0 (openWords (byte0By b) cs))) (s .words) ∙ words-front start (openWords (byte0By b) cs))
 
 pub open-is-refused : OpenIsRefused
 open-is-refused start cs b out go =
     let s = stands go in
-    rw (open-read s) (open-refused (byte0By b) (tag-byte b (s .tag)) cs (s .all) (omega (arith, s .words, s .most)))
+    rw (open-read s)
+    (open-refused (byte0By b) (tag-byte b (s .tag)) cs (s .all) (omega (arith, s .words, s .most)) ∙ ap (λ (n : ℕ). Wrong (cond (none cs) (refusal 2) (refusedAt 3 n))) (sym (s .words)))
 
 -- closed: what is built is what is read
 pub built-is-read : BuiltIsRead

@@ -53,7 +53,7 @@ module _ (answer : List ℕ) where
       ws = wordsOf answer
 
       -- the one header is looked at
-      looks : startOf answer ≡ startedFrom (lookTurn (lookAt byte0 2 true ws 0) (drop (0 + 1) ws) (λ n. answersFrom discoveryByte [] (drop (0 + 1 + n) ws)))
+      looks : startOf answer ≡ startedFrom (lookTurn (lookAt byte0 2 true ws 0) (drop (0 + 1) ws) (λ n. answersFrom discoveryByte (0 + 1 + n) [] (drop (0 + 1 + n) ws)))
       unfolding startOf
       looks = rw (judge-whole discoveryRequest answer long (first ∙ ap answerByte is), is, looked discoveryByte discoveryCommand [] ws 0)
 

@@ -107,7 +107,7 @@ pub record Sides (asked : List ℕ) (byte0 : ℕ) (ws : List ℕ) (at back k : �
   pub counted : told .count ≤ back
   pub within : back ≤ length ws
   pub most : length ws ≤ limit
-  pub same : gathered k (kindOf byte0) back told (answersFrom byte0 (command ∷ behind) (drop back ws)) ≡ whole
+  pub same : gathered k (kindOf byte0) back told (answersFrom byte0 back (command ∷ behind) (drop back ws)) ≡ whole
 
 -- an accepted request's first command, and its answers from their first word on
 pub sides-starts : (request answer : List ℕ) (byte0 k : ℕ) → Ready request byte0 → length answer ≤ limitBytes
@@ -122,7 +122,7 @@ sides-starts request answer byte0 k y h =
       counted = omega arith;
       within = omega arith;
       most = omega (arith, length-wordsOf answer);
-      same = rw (y .is, ← n .2, y .first) (gathered-all (kindOf (r .byte0)) k (answersFrom (r .byte0) (r .commands) (wordsOf answer)));
+      same = rw (y .is, ← n .2, y .first) (gathered-all (kindOf (r .byte0)) k (answersFrom (r .byte0) 0 (r .commands) (wordsOf answer)));
     }
 
 module _ {asked : List ℕ} {byte0 : ℕ} {ws : List ℕ} {at back k : ℕ} {told whole : Outcome} (g : Sides asked byte0 ws at back k told whole) where
@@ -135,7 +135,7 @@ module _ {asked : List ℕ} {byte0 : ℕ} {ws : List ℕ} {at back k : ℕ} {tol
   look-is l e = rw (next .count, next .last) at e
 
   on : gathered k (kindOf byte0) back told
-      (lookTurn (lookAt byte0 (g .command .count) (none (g .behind)) ws back) (drop (back + 1) ws) (λ n. answersFrom byte0 (g .behind) (drop (back + 1 + n) ws)))
+      (lookTurn (lookAt byte0 (g .command .count) (none (g .behind)) ws back) (drop (back + 1) ws) (λ n. answersFrom byte0 (back + 1 + n) (g .behind) (drop (back + 1 + n) ws)))
       ≡ whole
   on = ap (gathered k (kindOf byte0) back told) (sym (looked byte0 (g .command) (g .behind) ws back)) ∙ g .same
 
@@ -154,7 +154,7 @@ module _ {asked : List ℕ} {byte0 : ℕ} {ws : List ℕ} {at back k : ℕ} {tol
     item = record { status = s .status; payload = take (s .count) (drop (back + 1) ws) }
 
     -- the whole, one answer on
-    turned : gathered k (kindOf byte0) back told (cond (s .last) (Means (item ∷ [])) (before item (answersFrom byte0 (g .behind) (drop (back + 1 + s .count) ws)))) ≡ whole
+    turned : gathered k (kindOf byte0) back told (cond (s .last) (Means (item ∷ [])) (before item (answersFrom byte0 (back + 1 + s .count) (g .behind) (drop (back + 1 + s .count) ws)))) ≡ whole
     turned = rw (look-is (Item s) e) at on
 
     pub sides-last : s .last ≡ true → new ≡ whole
@@ -172,7 +172,7 @@ module _ {asked : List ℕ} {byte0 : ℕ} {ws : List ℕ} {at back k : ℕ} {tol
           within = sides-found .within;
           most = g .most;
           same =
-              let p = answersFrom byte0 (g .behind) (drop (back + 1 + s .count) ws) in
+              let p = answersFrom byte0 (back + 1 + s .count) (g .behind) (drop (back + 1 + s .count) ws) in
               let t : gathered k (kindOf byte0) (back + 1 + length (item .payload)) (withItem told k (kindOf byte0) back (s .status) (length (item .payload))) p ≡ whole =
               sym (gathered-before k (kindOf byte0) back told item p) ∙ rw l at turned in
               rw (← n .2) (rw (sides-found .long) at t);

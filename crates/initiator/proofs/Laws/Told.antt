@@ -7,7 +7,7 @@ use lib.ListN.{length, getD}
 use Rattle.word.specs.Words.{wordsOf, Bytes}
 use Rattle.message.specs.declared.refusal.Refusal.{Refusal}
 use Rattle.message.specs.Header.{kindOf, discoveryOf}
-use Rattle.message.specs.Walk.{refusal}
+use Rattle.message.specs.Walk.{refusedAt, refusal}
 use Rattle.message.specs.Request.{Request, Reading, Wrong, Means, read, lengthOk}
 use Rattle.message.specs.Answer.{answerByte, judge}
 use Rattle.message.proofs.Laws.Going.{read-first}
@@ -17,7 +17,7 @@ use Rattle.initiator.specs.Outcome.{judgedBy, refusedWith, toldOf, outco
 
 module _ (request answer : List ℕ) (k : ℕ) where
   -- 31: the request would be refused
-  pub told-wrong : (r : Refusal) → read request ≡ Wrong r → refusedWith (refusal 31) ≡ outcomeOf request answer k
+  pub told-wrong : (r : Refusal) → read request ≡ Wrong r → refusedWith (refusedAt 31 (r .at)) ≡ outcomeOf request answer k
   unfolding outcomeOf judgedBy toldOf
   told-wrong r e = rw e
 

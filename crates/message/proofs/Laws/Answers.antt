@@ -64,6 +64,12 @@ wanted-reply byte0 count Ok = omega arith
 wanted-reply byte0 count Timeout = omega arith
 wanted-reply byte0 count Error = omega arith
 
+-- an answer that does not stop is OK, and not that of the last command
+pub stops-clear : (s : Status) (last : Bool) → stops s last ≡ false → (s ≡ Ok) × (last ≡ false)
+stops-clear Ok last e = (refl, e)
+stops-clear Timeout last e = absurd (false≢true (sym e))
+stops-clear Error last e = absurd (false≢true (sym e))
+
 -- one flag beside another
 pub beq-set : (b : Bool) → Bool·beq true b ≡ b
 beq-set true = refl

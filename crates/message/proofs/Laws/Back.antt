@@ -18,7 +18,7 @@ use Rattle.message.specs.declared.walk.Step.{Step}
 use Rattle.message.specs.declared.walk.Step.the-variants.{Read, Refused}
 use Rattle.message.specs.Limits.{limit, limitBytes}
 use Rattle.message.specs.Header.{kindOf, byte0Of, byte1Of, countOf, reservedOf, lastOf, headerFrom, addressWords, dataWords, bodyWords, headOf}
-use Rattle.message.specs.Walk.{refusal, asks, endsOk, stepOn}
+use Rattle.message.specs.Walk.{refusedAt, asks, endsOk, stepOn}
 use Rattle.message.specs.Request.{Command, Request, Reading, Wrong, Means, addressFrom, addressIn, addressTop, commandOf, before, turn, commandsFrom, replies, ended, lengthOk, read, commandWords, none, requestWords, written, FitsCommand, All, FitsAsked, Fits}
 use Rattle.message.proofs.Laws.Headers.{header-is, address-le}
 use Rattle.message.proofs.Laws.Faults.{SoundBefore, sound, faultBefore, no-mean, past, before-is}
@@ -103,25 +103,25 @@ module _ (byte0 h : ℕ) (rest : List ℕ) (s : SoundBefore byte0 h rest) (hw : 
         is = rw (b .is, b .some, ← l) (one-is byte0 h rest s hw each);
       }
 
-pub commands-backed : (byte0 skip : ℕ) (ws : List ℕ) (cs : List Command) → Words ws → commandsFrom byte0 skip ws ≡ Means cs → Backed byte0 (drop skip ws) cs
+pub commands-backed : (byte0 at skip : ℕ) (ws : List ℕ) (cs : List Command) → Words ws → commandsFrom byte0 at skip ws ≡ Means cs → Backed byte0 (drop skip ws) cs
 unfolding commandsFrom Below headOf stepOn
-commands-backed byte0 zero [] cs e m = no-mean m
-commands-backed byte0 (suc n) [] cs e m = no-mean m
-commands-backed byte0 (suc n) (w ∷ ws) cs e m = commands-backed byte0 n ws cs (e .1) m
-commands-backed byte0 zero (h ∷ rest) cs e m = go (λ n ds x. commands-backed byte0 n rest ds (e .1) x) (eqb (faultBefore byte0 h rest) 0) refl m
+commands-backed byte0 at zero [] cs e m = no-mean m
+commands-backed byte0 at (suc n) [] cs e m = no-mean m
+commands-backed byte0 at (suc n) (w ∷ ws) cs e m = commands-backed byte0 at n ws cs (e .1) m
+commands-backed byte0 at zero (h ∷ rest) cs e m = go (λ n ds x. commands-backed byte0 (at + 1 + n) n rest ds (e .1) x) (eqb (faultBefore byte0 h rest) 0) refl m
   where
-    by : SoundBefore byte0 h rest → ((n : ℕ) (ds : List Command) → commandsFrom byte0 n rest ≡ Means ds → Backed byte0 (drop n rest) ds)
+    by : SoundBefore byte0 h rest → ((n : ℕ) (ds : List Command) → commandsFrom byte0 (at + 1 + n) n rest ≡ Means ds → Backed byte0 (drop n rest) ds)
         → (b : Bool) → lastOf h ≡ b
-        → cond b (Means (commandOf byte0 h rest ∷ [])) (before (commandOf byte0 h rest) (commandsFrom byte0 (bodyWords byte0 (countOf h)) rest)) ≡ Means cs
+        → cond b (Means (commandOf byte0 h rest ∷ [])) (before (commandOf byte0 h rest) (commandsFrom byte0 (at + 1 + bodyWords byte0 (countOf h)) (bodyWords byte0 (countOf h)) rest)) ≡ Means cs
         → Backed byte0 (h ∷ rest) cs
     by s ih true l x = let is : commandOf byte0 h rest ∷ [] ≡ cs = cc in rw (← is) (last-backed byte0 h rest s (e .0) (e .1) l)
     by s ih false l x =
-        let t = before-is (commandOf byte0 h rest) (commandsFrom byte0 (bodyWords byte0 (countOf h)) rest) cs x in
+        let t = before-is (commandOf byte0 h rest) (commandsFrom byte0 (at + 1 + bodyWords byte0 (countOf h)) (bodyWords byte0 (countOf h)) rest) cs x in
         rw (t .2) (more-backed byte0 h rest s (e .0) (e .1) l (t .0) (ih (bodyWords byte0 (countOf h)) (t .0) (t .1)))
 
-    go : ((n : ℕ) (ds : List Command) → commandsFrom byte0 n rest ≡ Means ds → Backed byte0 (drop n rest) ds)
+    go : ((n : ℕ) (ds : List Command) → commandsFrom byte0 (at + 1 + n) n rest ≡ Means ds → Backed byte0 (drop n rest) ds)
         → (b : Bool) → eqb (faultBefore byte0 h rest) 0 ≡ b
-        → turn (cond b (Read (headOf byte0 h)) (Refused (refusal (faultBefore byte0 h rest)))) (commandOf byte0 h rest) (λ n. commandsFrom byte0 n rest) ≡ Means cs
+        → turn (cond b (Read (headOf byte0 h)) (Refused (refusedAt (faultBefore byte0 h rest) at))) (commandOf byte0 h rest) (λ n. commandsFrom byte0 (at + 1 + n) n rest) ≡ Means cs
         → Backed byte0 (h ∷ rest) cs
     go ih false z x = no-mean x
     go ih true z x = by (sound byte0 h (length rest) _ (eqb-true _ _ z)) ih (lastOf h) refl x
@@ -156,9 +156,9 @@ pub written-read : (dg : List ℕ) (r : Request) → Bytes dg → read dg ≡ Me
 unfolding read written
 written-read dg r h m =
     let p = past (lengthOk (length dg)) _ _ m in
-    let t = ended-is (getD dg 0 0) (commandsFrom (getD dg 0 0) 0 (wordsOf dg)) r (p .1) in
+    let t = ended-is (getD dg 0 0) (commandsFrom (getD dg 0 0) 0 0 (wordsOf dg)) r (p .1) in
     let n = right (length dg) (p .0) in
-    let b : Backed (r .byte0) (wordsOf dg) (r .commands) = rw (t .0) (commands-backed (getD dg 0 0) 0 (wordsOf dg) (r .commands) (words-below dg h) (t .1)) in (
+    let b : Backed (r .byte0) (wordsOf dg) (r .commands) = rw (t .0) (commands-backed (getD dg 0 0) 0 0 (wordsOf dg) (r .commands) (words-below dg h) (t .1)) in (
       record {
         asked = record {
           byte = rw (t .0) (below-nth 256 dg 0 h (omega arith));

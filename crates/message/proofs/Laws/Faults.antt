@@ -15,13 +15,29 @@ use Rattle.message.specs.declared.walk.Step.{Step}
 use Rattle.message.specs.declared.walk.Step.the-variants.{Read, Refused}
 use Rattle.message.specs.declared.header.Kind.the-variants.{Write}
 use Rattle.message.specs.Header.{kindOf, wideOf, byte0Of, byte1Of, firstOf, finalOf, countOf, reservedOf, lastOf, bit, addressWords, dataWords, bodyWords, headOf}
-use Rattle.message.specs.Walk.{refusal, asks, countOk, gapsOk, firstOk, finalOk, gapless, patternOk, enablesOk, endsOk, unless, faultOf, stepOn}
+use Rattle.message.specs.Walk.{refusedAt, asks, countOk, gapsOk, firstOk, finalOk, gapless, patternOk, enablesOk, endsOk, unless, faultOf, stepOn}
 use Rattle.message.specs.Request.{Reading, Wrong, Means, addressFrom, before, commandsFrom}
 
 -- a check that found no fault
 pub passed : (ok : Bool) (n x : ℕ) → 0 < n → unless ok n x ≡ 0 → (ok ≡ true) × (x ≡ 0)
 passed true n x h e = (refl, e)
 passed false n x h e = absurd (omega arith)
+
+-- no fault, or one whose number lies between two
+abbrev pub Between : ℕ → ℕ → ℕ → Type 0
+Between low high n = (n ≡ 0 → ⊥) → (low ≤ n) × (n ≤ high)
+
+pub unless-between : (low high : ℕ) (ok : Bool) (n x : ℕ) → low ≤ n → n ≤ high → Between low high x → Between low high (unless ok n x)
+unless-between low high true n x h k b = b
+unless-between low high false n x h k b = λ z. (h, k)
+
+-- a refusal from word `at` on: a fault between two numbers, `on` words further
+pub record Further (low high : ℕ) (After : ℕ → ℕ → Type 0) (at : ℕ) (r : Refusal) : Type 0 where
+  pub least : low ≤ r .number
+  pub most : r .number ≤ high
+  pub on : ℕ
+  pub after : After (r .number) on
+  pub place : at + on ≡ r .at
 
 -- what stands in a header without fault
 pub record Sound (byte0 h left address : ℕ) : Type 0 where
@@ -92,14 +108,14 @@ short-faultless byte0 h left kind same bits fits ends =
     )
 
 -- a step by its header's fault
-pub step-read : (byte0 h left address : ℕ) → faultOf byte0 h left address ≡ 0 → stepOn byte0 h left address ≡ Read (headOf byte0 h)
+pub step-read : (byte0 at h left address : ℕ) → faultOf byte0 h left address ≡ 0 → stepOn byte0 at h left address ≡ Read (headOf byte0 h)
 unfolding stepOn
-step-read byte0 h left address e = rw (eq-eqb _ _ e)
+step-read byte0 at h left address e = rw (eq-eqb _ _ e)
 
-pub step-refused : (byte0 h left address : ℕ) → (faultOf byte0 h left address ≡ 0 → ⊥)
-    → stepOn byte0 h left address ≡ Refused (refusal (faultOf byte0 h left address))
+pub step-refused : (byte0 at h left address : ℕ) → (faultOf byte0 h left address ≡ 0 → ⊥)
+    → stepOn byte0 at h left address ≡ Refused (refusedAt (faultOf byte0 h left address) at)
 unfolding stepOn
-step-refused byte0 h left address e = rw (ne-eqb _ _ e)
+step-refused byte0 at h left address e = rw (ne-eqb _ _ e)
 
 -- a header's fault, and that it has none, by the words that follow it
 abbrev pub faultBefore : ℕ → ℕ → List ℕ → ℕ
@@ -148,8 +164,15 @@ enables-low byte0 count byte1 at ws kind =
 pub no-mean : {A B : Type 0} {r : Refusal} {a : A} → Wrong r ≡ Means a → B
 no-mean e = let z : _≡_ {A = ℕ} 0 1 = cc in absurd (omega arith)
 
-pub same-number : {A : Type 0} {m n : ℕ} → _≡_ {A = Reading A} (Wrong (refusal m)) (Wrong (refusal n)) → m ≡ n
-same-number {m = m} {n = n} e = let q : refusal m ≡ refusal n = cc in ap (λ (r : Refusal). r .number) q
+pub same-refusal : {A : Type 0} {q r : Refusal} → _≡_ {A = Reading A} (Wrong q) (Wrong r) → q ≡ r
+same-refusal e = cc
+
+-- a refusal's number and its index
+pub number-is : {q r : Refusal} → q ≡ r → q .number ≡ r .number
+number-is e = ap (λ (x : Refusal). x .number) e
+
+pub at-is : {q r : Refusal} → q ≡ r → q .at ≡ r .at
+at-is e = ap (λ (x : Refusal). x .at) e
 
 -- a check that let a reading by
 pub past : {A : Type 0} (ok : Bool) (r : Refusal) (x : Reading A) {a : A} → cond ok x (Wrong r) ≡ Means a → (ok ≡ true) × (x ≡ Means a)
@@ -165,8 +188,8 @@ before-wrong c (Wrong r) e = e
 before-wrong c (Means ds) e = let z : _≡_ {A = ℕ} 0 1 = cc in absurd (omega arith)
 
 -- skipped words are dropped
-pub skipped : (byte0 n : ℕ) (ws : List ℕ) → commandsFrom byte0 n ws ≡ commandsFrom byte0 0 (drop n ws)
+pub skipped : (byte0 at n : ℕ) (ws : List ℕ) → commandsFrom byte0 at n ws ≡ commandsFrom byte0 at 0 (drop n ws)
 unfolding commandsFrom
-skipped byte0 zero ws = refl
-skipped byte0 (suc n) [] = refl
-skipped byte0 (suc n) (w ∷ ws) = skipped byte0 n ws
+skipped byte0 at zero ws = refl
+skipped byte0 at (suc n) [] = refl
+skipped byte0 at (suc n) (w ∷ ws) = skipped byte0 at n ws

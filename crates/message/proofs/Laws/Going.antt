@@ -20,7 +20,7 @@ use Rattle.message.specs.declared.walk.Walked.{Walked}
 use Rattle.message.specs.declared.walk.Walked.the-variants.{WellFormed, Malformed}
 use Rattle.message.specs.Limits.{limit}
 use Rattle.message.specs.Header.{kindOf, countOf, lastOf, addressWords, bodyWords, replyWords, headOf}
-use Rattle.message.specs.Walk.{refusal, faultOf, stepOn}
+use Rattle.message.specs.Walk.{refusedAt, refusal, faultOf, stepOn}
 use Rattle.message.specs.Request.{Command, Request, Reading, Wrong, Means, addressFrom, commandOf, before, turn, commandsFrom, stepAt, replies, ended, endOf, finish, walked, lengthOk, read, walkOf}
 use Rattle.message.proofs.Laws.Headers.{reply-le}
 use Rattle.message.proofs.Laws.Faults.{Sound, sound, skipped, past}
@@ -33,7 +33,7 @@ turn-same (Read d) c f g h = rw (h (d .body))
 
 -- a step by its position
 pub unrolled : (byte0 : ℕ) (ws : List ℕ) (at : ℕ)
-    → commandsFrom byte0 0 (drop at ws) ≡ turn (stepAt byte0 ws at) (commandOf byte0 (getD ws at 0) (drop (at + 1) ws)) (λ n. commandsFrom byte0 0 (drop (at + 1 + n) ws))
+    → commandsFrom byte0 at 0 (drop at ws) ≡ turn (stepAt byte0 ws at) (commandOf byte0 (getD ws at 0) (drop (at + 1) ws)) (λ n. commandsFrom byte0 (at + 1 + n) 0 (drop (at + 1 + n) ws))
 unfolding stepAt commandsFrom
 unrolled byte0 ws at = go (ltb at (length ws)) refl
   where
@@ -41,15 +41,15 @@ unrolled byte0 ws at = go (ltb at (length ws)) refl
     address = addressFrom (addressWords byte0) (drop (at + 1) ws)
 
     go : (b : Bool) → ltb at (length ws) ≡ b
-        → commandsFrom byte0 0 (drop at ws)
-        ≡ turn (cond b (stepOn byte0 (getD ws at 0) (length ws - at - 1) address) (Refused (refusal 3))) (commandOf byte0 (getD ws at 0) (drop (at + 1) ws)) (λ n. commandsFrom byte0 0 (drop (at + 1 + n) ws))
+        → commandsFrom byte0 at 0 (drop at ws)
+        ≡ turn (cond b (stepOn byte0 at (getD ws at 0) (length ws - at - 1) address) (Refused (refusedAt 3 at))) (commandOf byte0 (getD ws at 0) (drop (at + 1) ws)) (λ n. commandsFrom byte0 (at + 1 + n) 0 (drop (at + 1 + n) ws))
     go false z = rw (drop-of-length-le ws (ltb-false at (length ws) z))
     go true z =
         let l = ltb-true at (length ws) z in
         let e1 : drop at ws ≡ getD ws at 0 ∷ drop (at + 1) ws = rw add-one (drop-cons ws at 0 l) in
         let e2 : length (drop (at + 1) ws) ≡ length ws - at - 1 = length-drop (at + 1) ws ∙ omega arith in
         rw (e1, e2)
-        (turn-same (stepOn byte0 (getD ws at 0) (length ws - at - 1) address) _ _ _ (λ n. skipped byte0 n (drop (at + 1) ws) ∙ ap (commandsFrom byte0 0) (drop-drop n (at + 1) ws)))
+        (turn-same (stepOn byte0 at (getD ws at 0) (length ws - at - 1) address) _ _ _ (λ n. skipped byte0 (at + 1 + n) n (drop (at + 1) ws) ∙ ap (commandsFrom byte0 (at + 1 + n) 0) (drop-drop n (at + 1) ws)))
 
 -- a header that was read, at its position
 pub record Got (byte0 : ℕ) (ws : List ℕ) (at : ℕ) (d : Head) : Type 0 where
@@ -65,7 +65,7 @@ got byte0 ws at d e = go (ltb at (length ws)) refl (eqb fault 0) refl e
     fault = faultOf byte0 (getD ws at 0) (length ws - at - 1) (addressFrom (addressWords byte0) (drop (at + 1) ws))
 
     go : (a : Bool) → ltb at (length ws) ≡ a → (b : Bool) → eqb fault 0 ≡ b
-        → cond a (cond b (Read (headOf byte0 (getD ws at 0))) (Refused (refusal fault))) (Refused (refusal 3)) ≡ Read d
+        → cond a (cond b (Read (headOf byte0 (getD ws at 0))) (Refused (refusedAt fault at))) (Refused (refusedAt 3 at)) ≡ Read d
         → Got byte0 ws at d
     go false z b y e = let n : _≡_ {A = ℕ} 0 1 = cc in absurd (omega arith)
     go true z false y e = let n : _≡_ {A = ℕ} 0 1 = cc in absurd (omega arith)
@@ -96,18 +96,18 @@ pub record Going (byte0 : ℕ) (ws : List ℕ) (at answer : ℕ) : Type 0 where
   pub most : length ws ≤ limit
   pub within : at ≤ length ws
   pub small : answer ≤ 4096 * at
-  pub same : finish byte0 answer (commandsFrom byte0 0 (drop at ws)) ≡ finish byte0 0 (commandsFrom byte0 0 ws)
+  pub same : finish byte0 answer (commandsFrom byte0 at 0 (drop at ws)) ≡ finish byte0 0 (commandsFrom byte0 0 0 ws)
 
 pub going-starts : (byte0 : ℕ) (ws : List ℕ) → length ws ≤ limit → Going byte0 ws 0 0
 going-starts byte0 ws h = record { most = h; within = omega arith; small = omega arith; same = refl }
 
 module _ {byte0 : ℕ} {ws : List ℕ} {at answer : ℕ} (g : Going byte0 ws at answer) where
   -- the whole, one step on
-  on : finish byte0 answer (turn (stepAt byte0 ws at) (commandOf byte0 (getD ws at 0) (drop (at + 1) ws)) (λ n. commandsFrom byte0 0 (drop (at + 1 + n) ws)))
-      ≡ finish byte0 0 (commandsFrom byte0 0 ws)
+  on : finish byte0 answer (turn (stepAt byte0 ws at) (commandOf byte0 (getD ws at 0) (drop (at + 1) ws)) (λ n. commandsFrom byte0 (at + 1 + n) 0 (drop (at + 1 + n) ws)))
+      ≡ finish byte0 0 (commandsFrom byte0 0 0 ws)
   on = ap (finish byte0 answer) (sym (unrolled byte0 ws at)) ∙ g .same
 
-  pub going-refused : (r : Refusal) → stepAt byte0 ws at ≡ Refused r → Malformed r ≡ finish byte0 0 (commandsFrom byte0 0 ws)
+  pub going-refused : (r : Refusal) → stepAt byte0 ws at ≡ Refused r → Malformed r ≡ finish byte0 0 (commandsFrom byte0 0 0 ws)
   unfolding finish
   going-refused r e = rw e at on
 
@@ -119,7 +119,7 @@ module _ {byte0 : ℕ} {ws : List ℕ} {at answer : ℕ} (g : Going byte0 ws at 
     unfolding commandOf
     count-is = rw (got byte0 ws at d e .counted)
 
-    pub going-last : d .last ≡ true → endOf (answer + 1 + reply) ≡ finish byte0 0 (commandsFrom byte0 0 ws)
+    pub going-last : d .last ≡ true → endOf (answer + 1 + reply) ≡ finish byte0 0 (commandsFrom byte0 0 0 ws)
     unfolding finish replies
     going-last l =
         let q : answer + (1 + replyWords (kindOf byte0) (commandOf byte0 (getD ws at 0) (drop (at + 1) ws) .count) + 0) ≡ answer + 1 + reply = omega (arith, count-is) in
@@ -157,9 +157,9 @@ pub walk-long : (dg : List ℕ) → lengthOk (length dg) ≡ false → Malformed
 unfolding walkOf read
 walk-long dg e = rw e
 
-pub walk-whole : (dg : List ℕ) (byte0 : ℕ) → lengthOk (length dg) ≡ true → byte0 ≡ getD dg 0 0 → finish byte0 0 (commandsFrom byte0 0 (wordsOf dg)) ≡ walkOf dg
+pub walk-whole : (dg : List ℕ) (byte0 : ℕ) → lengthOk (length dg) ≡ true → byte0 ≡ getD dg 0 0 → finish byte0 0 (commandsFrom byte0 0 0 (wordsOf dg)) ≡ walkOf dg
 unfolding walkOf read
-walk-whole dg byte0 l e = rw (l, e) (walked-ended (getD dg 0 0) (commandsFrom (getD dg 0 0) 0 (wordsOf dg)))
+walk-whole dg byte0 l e = rw (l, e) (walked-ended (getD dg 0 0) (commandsFrom (getD dg 0 0) 0 0 (wordsOf dg)))
 
 -- what a walk that lets by means, and one that refuses
 pub record Meant (dg : List ℕ) (answer : ℕ) : Type 0 where
@@ -188,4 +188,4 @@ pub read-first : (dg : List ℕ) (r : Request) → read dg ≡ Means r → Right
 unfolding read
 read-first dg r m =
     let p = past (lengthOk (length dg)) _ _ m in
-    (right (length dg) (p .0), sym (ended-is (getD dg 0 0) (commandsFrom (getD dg 0 0) 0 (wordsOf dg)) r (p .1) .0))
+    (right (length dg) (p .0), sym (ended-is (getD dg 0 0) (commandsFrom (getD dg 0 0) 0 0 (wordsOf dg)) r (p .1) .0))

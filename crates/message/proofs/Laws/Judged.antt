@@ -17,7 +17,7 @@ use Rattle.message.specs.declared.answer.Look.{Look}
 use Rattle.message.specs.declared.answer.Look.the-variants.{Item, Bad}
 use Rattle.message.specs.Limits.{limit}
 use Rattle.message.specs.Header.{kindOf, byte0Of, byte1Of, countOf, reservedOf, lastOf, headerFrom, replyWords}
-use Rattle.message.specs.Walk.{refusal, endsOk}
+use Rattle.message.specs.Walk.{refusedAt, refusal, endsOk}
 use Rattle.message.specs.Request.{Command, Request, Reading, Wrong, Means, before, replies, lengthOk, none, FitsCommand, All, FitsAsked, Fits}
 use Rattle.message.specs.Answer.{Answered, codeOf, statusNo, answerByte, wanted, stops, answerFault, seenOf, lookOn, lookTurn, answersFrom, judge, answeredWords, answerWords, encodeAnswer, FitsAnswered, FitsAnswers, FitsAnswer}
 use Rattle.message.specs.Refusals.{AcceptsExactly}
@@ -28,9 +28,9 @@ use Rattle.message.proofs.Laws.Back.{Right, right}
 use Rattle.message.proofs.Laws.Answers.{status-code, code-status, code-lt, answer-lt, wanted-le, wanted-reply, Fair, fair, fair-fault}
 
 -- a look by its header's fault
-look-item : (byte0 count : ℕ) (last : Bool) (h left : ℕ) → answerFault byte0 count last h left ≡ 0 → lookOn byte0 count last h left ≡ Item (seenOf h)
+look-item : (byte0 count : ℕ) (last : Bool) (at h left : ℕ) → answerFault byte0 count last h left ≡ 0 → lookOn byte0 count last at h left ≡ Item (seenOf h)
 unfolding lookOn
-look-item byte0 count last h left e = rw (eq-eqb _ _ e)
+look-item byte0 count last at h left e = rw (eq-eqb _ _ e)
 
 module _ (byte0 : ℕ) where
   -- an answer's header is made of fields that fit
@@ -73,11 +73,11 @@ module _ (byte0 : ℕ) where
           ends = rw (la, cn) (ends-at b n (length r) e);
         }
 
-    answered-back : answersFrom byte0 (c ∷ cs) (answeredWords (answerByte byte0) b a ++ r) ≡ cond b (Means (a ∷ [])) (before a (answersFrom byte0 cs r))
+    pub answered-back : (at : ℕ) → answersFrom byte0 at (c ∷ cs) (answeredWords (answerByte byte0) b a ++ r) ≡ cond b (Means (a ∷ [])) (before a (answersFrom byte0 (at + 1 + n) cs r))
     unfolding answersFrom answeredWords seenOf
-    answered-back =
-        let look : lookOn byte0 (c .count) (none cs) h (length (a .payload ++ r)) ≡ Item (seenOf h) =
-        rw (length-append (a .payload) r) (look-item byte0 (c .count) (none cs) h _ (fair-fault byte0 (c .count) (none cs) h _ fair-header)) in
+    answered-back at =
+        let look : lookOn byte0 (c .count) (none cs) at h (length (a .payload ++ r)) ≡ Item (seenOf h) =
+        rw (length-append (a .payload) r) (look-item byte0 (c .count) (none cs) at h _ (fair-fault byte0 (c .count) (none cs) h _ fair-header)) in
         rw (
           look,
           last-back (answerByte byte0) (codeOf (a .status)) n b (answer-lt byte0) hs hn,
@@ -94,22 +94,22 @@ module _ (byte0 : ℕ) where
   ends-none cs [] false f = absurd f
   ends-none cs (a ∷ items) false f = refl
 
-  answers-back : (cs : List Command) (items : List Answered) → All (FitsCommand byte0) cs → FitsAnswers byte0 cs items
-      → answersFrom byte0 cs (answerWords (answerByte byte0) items) ≡ Means items
+  answers-back : (at : ℕ) (cs : List Command) (items : List Answered) → All (FitsCommand byte0) cs → FitsAnswers byte0 cs items
+      → answersFrom byte0 at cs (answerWords (answerByte byte0) items) ≡ Means items
   unfolding FitsAnswers answerWords All
-  answers-back cs [] g f = absurd f
-  answers-back [] (a ∷ items) g f = absurd f
-  answers-back (c ∷ cs) (a ∷ items) g f = go (λ x. answers-back cs items (g .1) x) (stops (a .status) (none cs)) refl (f .1)
+  answers-back at cs [] g f = absurd f
+  answers-back at [] (a ∷ items) g f = absurd f
+  answers-back at (c ∷ cs) (a ∷ items) g f = go (λ x. answers-back (at + 1 + length (a .payload)) cs items (g .1) x) (stops (a .status) (none cs)) refl (f .1)
     where
-      go : (FitsAnswers byte0 cs items → answersFrom byte0 cs (answerWords (answerByte byte0) items) ≡ Means items)
+      go : (FitsAnswers byte0 cs items → answersFrom byte0 (at + 1 + length (a .payload)) cs (answerWords (answerByte byte0) items) ≡ Means items)
           → (b : Bool) → stops (a .status) (none cs) ≡ b → cond b (items ≡ []) (FitsAnswers byte0 cs items)
-          → answersFrom byte0 (c ∷ cs) (answeredWords (answerByte byte0) (none items) a ++ answerWords (answerByte byte0) items) ≡ Means (a ∷ items)
+          → answersFrom byte0 at (c ∷ cs) (answeredWords (answerByte byte0) (none items) a ++ answerWords (answerByte byte0) items) ≡ Means (a ∷ items)
       go ih true z x =
           let e : length (answerWords (answerByte byte0) items) ≡ 0 = rw x in
-          rw (ends-none cs items true x) (answered-back c cs a (g .0) (f .0) (answerWords (answerByte byte0) items) true z (λ t. e) ∙ rw x)
+          rw (ends-none cs items true x) (answered-back c cs a (g .0) (f .0) (answerWords (answerByte byte0) items) true z (λ t. e) at ∙ rw x)
       go ih false z x =
           rw (ends-none cs items false x)
-          (answered-back c cs a (g .0) (f .0) (answerWords (answerByte byte0) items) false z (λ t. absurd (false≢true t)) ∙ rw (ih x))
+          (answered-back c cs a (g .0) (f .0) (answerWords (answerByte byte0) items) false z (λ t. absurd (false≢true t)) at ∙ rw (ih x))
 
   -- an answer that fits is no longer than the all-OK answer, has a word, and its words are words
   pub answers-long : (cs : List Command) (items : List Answered) → FitsAnswers byte0 cs items → length (answerWords (answerByte byte0) items) ≤ replies byte0 cs
@@ -150,7 +150,7 @@ module _ (byte0 : ℕ) where
       go ih false x = ih x
 
   -- the answer in a header and the words behind it
-  abbrev itemOf : ℕ → List ℕ → Answered
+  abbrev pub itemOf : ℕ → List ℕ → Answered
   itemOf h rest = record { status = statusNo (byte1Of h); payload = take (countOf h) rest }
 
   -- words that answer some commands are the encoding of a list that fits them
@@ -159,13 +159,13 @@ module _ (byte0 : ℕ) where
     is : answerWords (answerByte byte0) items ≡ ws
 
   module _ (c : Command) (cs : List Command) (h : ℕ) (rest : List ℕ) (f : Fair byte0 (c .count) (none cs) h (length rest)) (hw : h < 4294967296) (each : Words rest) where
-    item-long : length (take (countOf h) rest) ≡ countOf h
+    pub item-long : length (take (countOf h) rest) ≡ countOf h
     item-long = length-take-le (countOf h) rest (f .within)
 
-    item-fits : FitsAnswered byte0 c (itemOf h rest)
+    pub item-fits : FitsAnswered byte0 c (itemOf h rest)
     item-fits = record { long = item-long ∙ f .counted; words = below-take _ (countOf h) rest each }
 
-    item-is : answeredWords (answerByte byte0) (lastOf h) (itemOf h rest) ++ drop (countOf h) rest ≡ h ∷ rest
+    pub item-is : answeredWords (answerByte byte0) (lastOf h) (itemOf h rest) ++ drop (countOf h) rest ≡ h ∷ rest
     unfolding answeredWords
     item-is =
         let hd : headerFrom (answerByte byte0) (byte1Of h) (countOf h) (lastOf h) ≡ h = rw (← f .same) (header-is h hw (f .clear)) in
@@ -185,26 +185,26 @@ module _ (byte0 : ℕ) where
         let s : stops (statusNo (byte1Of h)) (none cs) ≡ false = sym (f .stopped) ∙ l in
         record { fits = (item-fits, rw s (a .fits)); is = rw (a .is, ends-none cs items false (a .fits), ← l) item-is }
 
-  answers-is : (cs : List Command) (ws : List ℕ) (items : List Answered) → Words ws → answersFrom byte0 cs ws ≡ Means items → Answer cs ws items
+  answers-is : (at : ℕ) (cs : List Command) (ws : List ℕ) (items : List Answered) → Words ws → answersFrom byte0 at cs ws ≡ Means items → Answer cs ws items
   unfolding answersFrom lookOn seenOf Below
-  answers-is [] ws items e m = no-mean m
-  answers-is (c ∷ cs) [] items e m = no-mean m
-  answers-is (c ∷ cs) (h ∷ rest) items e m =
-      go (λ n x y. answers-is cs (drop n rest) x (below-drop _ n rest (e .1)) y) (eqb (answerFault byte0 (c .count) (none cs) h (length rest)) 0) refl m
+  answers-is at [] ws items e m = no-mean m
+  answers-is at (c ∷ cs) [] items e m = no-mean m
+  answers-is at (c ∷ cs) (h ∷ rest) items e m =
+      go (λ n x y. answers-is (at + 1 + n) cs (drop n rest) x (below-drop _ n rest (e .1)) y) (eqb (answerFault byte0 (c .count) (none cs) h (length rest)) 0) refl m
     where
       by : Fair byte0 (c .count) (none cs) h (length rest)
-          → ((n : ℕ) (x : List Answered) → answersFrom byte0 cs (drop n rest) ≡ Means x → Answer cs (drop n rest) x)
+          → ((n : ℕ) (x : List Answered) → answersFrom byte0 (at + 1 + n) cs (drop n rest) ≡ Means x → Answer cs (drop n rest) x)
           → (b : Bool) → lastOf h ≡ b
-          → cond b (Means (itemOf h rest ∷ [])) (before (itemOf h rest) (answersFrom byte0 cs (drop (countOf h) rest))) ≡ Means items
+          → cond b (Means (itemOf h rest ∷ [])) (before (itemOf h rest) (answersFrom byte0 (at + 1 + countOf h) cs (drop (countOf h) rest))) ≡ Means items
           → Answer (c ∷ cs) (h ∷ rest) items
       by f ih true l x = let is : itemOf h rest ∷ [] ≡ items = cc in rw (← is) (last-answer c cs h rest f (e .0) (e .1) l)
       by f ih false l x =
-          let t = before-is (itemOf h rest) (answersFrom byte0 cs (drop (countOf h) rest)) items x in
+          let t = before-is (itemOf h rest) (answersFrom byte0 (at + 1 + countOf h) cs (drop (countOf h) rest)) items x in
           rw (t .2) (more-answers c cs h rest f (e .0) (e .1) l (t .0) (ih (countOf h) (t .0) (t .1)))
 
-      go : ((n : ℕ) (x : List Answered) → answersFrom byte0 cs (drop n rest) ≡ Means x → Answer cs (drop n rest) x)
+      go : ((n : ℕ) (x : List Answered) → answersFrom byte0 (at + 1 + n) cs (drop n rest) ≡ Means x → Answer cs (drop n rest) x)
           → (b : Bool) → eqb (answerFault byte0 (c .count) (none cs) h (length rest)) 0 ≡ b
-          → lookTurn (cond b (Item (seenOf h)) (Bad (refusal (answerFault byte0 (c .count) (none cs) h (length rest))))) rest (λ n. answersFrom byte0 cs (drop n rest)) ≡ Means items
+          → lookTurn (cond b (Item (seenOf h)) (Bad (refusedAt (answerFault byte0 (c .count) (none cs) h (length rest)) at))) rest (λ n. answersFrom byte0 (at + 1 + n) cs (drop n rest)) ≡ Means items
           → Answer (c ∷ cs) (h ∷ rest) items
       go ih false z x = no-mean x
       go ih true z x = by (fair byte0 (c .count) (none cs) h (length rest) (eqb-true _ _ z)) ih (lastOf h) refl x
@@ -223,7 +223,7 @@ judge-encoded r items f g =
       eq-eqb (answerByte b) (answerByte b) refl,
       words-back ws (answers-words b (r .commands) items all g),
     )
-    (answers-back b (r .commands) items all g)
+    (answers-back b 0 (r .commands) items all g)
 
 -- and what is accepted is a fitting list's encoding
 pub encode-judged : (r : Request) (dg : List ℕ) (items : List Answered) → Bytes dg → judge r dg ≡ Means items → FitsAnswer r items × (dg ≡ encodeAnswer r items)
@@ -231,7 +231,7 @@ unfolding judge encodeAnswer
 encode-judged r dg items hb m =
     let p = past (lengthOk (length dg)) _ _ m in
     let q = past (eqb (getD dg 0 0) (answerByte (r .byte0))) _ _ (p .1) in
-    let a = answers-is (r .byte0) (r .commands) (wordsOf dg) items (words-below dg hb) (q .1) in
+    let a = answers-is (r .byte0) 0 (r .commands) (wordsOf dg) items (words-below dg hb) (q .1) in
     (a .fits, rw (a .is) (sym (bytes-back dg hb (right (length dg) (p .0) .whole))))
 
 pub accepts : (r : Request) (dg : List ℕ) → Fits r → Bytes dg → AcceptsExactly r dg

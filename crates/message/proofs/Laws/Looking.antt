@@ -11,17 +11,16 @@ use lib.ListN.{length, getD, take, drop, length-drop, drop-of-length-le}
 use lib.Seq.{drop-cons, drop-drop, length-take-le}
 use Rattle.word.specs.Words.{wordsOf}
 use Rattle.message.specs.declared.answer.Status.{Status}
-use Rattle.message.specs.declared.answer.Status.the-variants.{Ok, Timeout, Error}
 use Rattle.message.specs.declared.answer.Seen.{Seen}
 use Rattle.message.specs.declared.answer.Look.{Look}
 use Rattle.message.specs.declared.answer.Look.the-variants.{Item, Bad}
 use Rattle.message.specs.declared.refusal.Refusal.{Refusal}
 use Rattle.message.specs.Header.{countOf, lastOf, byte1Of}
-use Rattle.message.specs.Walk.{refusal}
+use Rattle.message.specs.Walk.{refusedAt, refusal}
 use Rattle.message.specs.Request.{Command, Request, Reading, Wrong, Means, before, lengthOk, none}
-use Rattle.message.specs.Answer.{Answered, statusNo, answerByte, wanted, stops, answerFault, seenOf, lookOn, lookAt, lookTurn, answersFrom, judge}
+use Rattle.message.specs.Answer.{Answered, statusNo, answerByte, wanted, answerFault, seenOf, lookOn, lookAt, lookTurn, answersFrom, judge}
 use Rattle.message.proofs.Laws.Faults.{past}
-use Rattle.message.proofs.Laws.Answers.{Fair, fair}
+use Rattle.message.proofs.Laws.Answers.{stops-clear, Fair, fair}
 
 -- a look whose words behind it answer the same
 look-same : (l : Look) (rest : List ℕ) (f g : ℕ → Reading (List Answered)) → ((n : ℕ) → f n ≡ g n) → lookTurn l rest f ≡ lookTurn l rest g
@@ -30,21 +29,21 @@ look-same (Item s) rest f g h = rw (h (s .count))
 
 -- the answer to the next command, at its position
 pub looked : (byte0 : ℕ) (c : Command) (cs : List Command) (ws : List ℕ) (at : ℕ)
-    → answersFrom byte0 (c ∷ cs) (drop at ws)
-    ≡ lookTurn (lookAt byte0 (c .count) (none cs) ws at) (drop (at + 1) ws) (λ n. answersFrom byte0 cs (drop (at + 1 + n) ws))
+    → answersFrom byte0 at (c ∷ cs) (drop at ws)
+    ≡ lookTurn (lookAt byte0 (c .count) (none cs) ws at) (drop (at + 1) ws) (λ n. answersFrom byte0 (at + 1 + n) cs (drop (at + 1 + n) ws))
 unfolding answersFrom lookAt
 looked byte0 c cs ws at = go (ltb at (length ws)) refl
   where
     go : (b : Bool) → ltb at (length ws) ≡ b
-        → answersFrom byte0 (c ∷ cs) (drop at ws)
-        ≡ lookTurn (cond b (lookOn byte0 (c .count) (none cs) (getD ws at 0) (length ws - at - 1)) (Bad (refusal 35))) (drop (at + 1) ws) (λ n. answersFrom byte0 cs (drop (at + 1 + n) ws))
+        → answersFrom byte0 at (c ∷ cs) (drop at ws)
+        ≡ lookTurn (cond b (lookOn byte0 (c .count) (none cs) at (getD ws at 0) (length ws - at - 1)) (Bad (refusedAt 35 at))) (drop (at + 1) ws) (λ n. answersFrom byte0 (at + 1 + n) cs (drop (at + 1 + n) ws))
     go false z = rw (drop-of-length-le ws (ltb-false at (length ws) z))
     go true z =
         let l = ltb-true at (length ws) z in
         let e1 : drop at ws ≡ getD ws at 0 ∷ drop (at + 1) ws = rw add-one (drop-cons ws at 0 l) in
         let e2 : length (drop (at + 1) ws) ≡ length ws - at - 1 = length-drop (at + 1) ws ∙ omega arith in
         rw (e1, e2)
-        (look-same (lookOn byte0 (c .count) (none cs) (getD ws at 0) (length ws - at - 1)) _ _ _ (λ n. ap (answersFrom byte0 cs) (drop-drop n (at + 1) ws)))
+        (look-same (lookOn byte0 (c .count) (none cs) at (getD ws at 0) (length ws - at - 1)) _ _ _ (λ n. ap (answersFrom byte0 (at + 1 + n) cs) (drop-drop n (at + 1) ws)))
 
 -- an answer that was read, at its position
 pub record Found (byte0 count : ℕ) (last : Bool) (ws : List ℕ) (at : ℕ) (s : Seen) : Type 0 where
@@ -55,17 +54,12 @@ pub record Found (byte0 count : ℕ) (last : Bool) (ws : List ℕ) (at : ℕ) (s
   pub long : length (take (s .count) (drop (at + 1) ws)) ≡ s .count
   pub more : s .last ≡ false → last ≡ false
 
-stops-more : (s : Status) (last : Bool) → stops s last ≡ false → last ≡ false
-stops-more Ok last e = e
-stops-more Timeout last e = let z : _≡_ {A = ℕ} 0 1 = cc in absurd (omega arith)
-stops-more Error last e = let z : _≡_ {A = ℕ} 0 1 = cc in absurd (omega arith)
-
 pub found : (byte0 count : ℕ) (last : Bool) (ws : List ℕ) (at : ℕ) (s : Seen) → lookAt byte0 count last ws at ≡ Item s → Found byte0 count last ws at s
 unfolding lookAt lookOn seenOf
 found byte0 count last ws at s e = go (ltb at (length ws)) refl (eqb (answerFault byte0 count last (getD ws at 0) (length ws - at - 1)) 0) refl e
   where
     go : (a : Bool) → ltb at (length ws) ≡ a → (b : Bool) → eqb (answerFault byte0 count last (getD ws at 0) (length ws - at - 1)) 0 ≡ b
-        → cond a (cond b (Item (seenOf (getD ws at 0))) (Bad (refusal (answerFault byte0 count last (getD ws at 0) (length ws - at - 1))))) (Bad (refusal 35)) ≡ Item s
+        → cond a (cond b (Item (seenOf (getD ws at 0))) (Bad (refusedAt (answerFault byte0 count last (getD ws at 0) (length ws - at - 1)) at))) (Bad (refusedAt 35 at)) ≡ Item s
         → Found byte0 count last ws at s
     go false z b y e = let n : _≡_ {A = ℕ} 0 1 = cc in absurd (omega arith)
     go true z false y e = let n : _≡_ {A = ℕ} 0 1 = cc in absurd (omega arith)
@@ -82,7 +76,7 @@ found byte0 count last ws at s e = go (ltb at (length ws)) refl (eqb (answerFaul
           small = omega arith;
           counted = sym n ∙ f .counted ∙ ap (wanted byte0 count) (ap (λ (x : Seen). x .status) is);
           long = length-take-le (s .count) (drop (at + 1) ws) (rw length-drop (omega arith));
-          more = λ x. stops-more (statusNo (byte1Of (getD ws at 0))) last (sym (f .stopped) ∙ q ∙ x);
+          more = λ x. stops-clear (statusNo (byte1Of (getD ws at 0))) last (sym (f .stopped) ∙ q ∙ x) .1;
         }
 
 -- a judged answer by its length and its byte 0
@@ -90,7 +84,7 @@ pub judge-long : (r : Request) (dg : List ℕ) → lengthOk (length dg) ≡ fals
 unfolding judge
 judge-long r dg e = rw e
 
-pub judge-whole : (r : Request) (dg : List ℕ) → lengthOk (length dg) ≡ true → getD dg 0 0 ≡ answerByte (r .byte0) → judge r dg ≡ answersFrom (r .byte0) (r .commands) (wordsOf dg)
+pub judge-whole : (r : Request) (dg : List ℕ) → lengthOk (length dg) ≡ true → getD dg 0 0 ≡ answerByte (r .byte0) → judge r dg ≡ answersFrom (r .byte0) 0 (r .commands) (wordsOf dg)
 unfolding judge
 judge-whole r dg l e = rw (l, eq-eqb _ _ e)
 
@@ -107,16 +101,16 @@ some-last : {A : Type 0} (b : Bool) (x : A) (p : Reading A) → Some p → Some 
 some-last true x p h = tt
 some-last false x p h = h
 
-answers-some : (byte0 : ℕ) (cs : List Command) (ws : List ℕ) → Some (answersFrom byte0 cs ws)
+answers-some : (byte0 at : ℕ) (cs : List Command) (ws : List ℕ) → Some (answersFrom byte0 at cs ws)
 unfolding answersFrom lookOn seenOf
-answers-some byte0 [] ws = omega arith
-answers-some byte0 (c ∷ cs) [] = omega arith
-answers-some byte0 (c ∷ cs) (h ∷ rest) = go (λ n. answers-some byte0 cs (drop n rest)) (eqb (answerFault byte0 (c .count) (none cs) h (length rest)) 0) refl
+answers-some byte0 at [] ws = omega arith
+answers-some byte0 at (c ∷ cs) [] = omega arith
+answers-some byte0 at (c ∷ cs) (h ∷ rest) = go (λ n. answers-some byte0 (at + 1 + n) cs (drop n rest)) (eqb (answerFault byte0 (c .count) (none cs) h (length rest)) 0) refl
   where
-    go : ((n : ℕ) → Some (answersFrom byte0 cs (drop n rest))) → (b : Bool) → eqb (answerFault byte0 (c .count) (none cs) h (length rest)) 0 ≡ b
-        → Some (lookTurn (cond b (Item (seenOf h)) (Bad (refusal (answerFault byte0 (c .count) (none cs) h (length rest))))) rest (λ n. answersFrom byte0 cs (drop n rest)))
+    go : ((n : ℕ) → Some (answersFrom byte0 (at + 1 + n) cs (drop n rest))) → (b : Bool) → eqb (answerFault byte0 (c .count) (none cs) h (length rest)) 0 ≡ b
+        → Some (lookTurn (cond b (Item (seenOf h)) (Bad (refusedAt (answerFault byte0 (c .count) (none cs) h (length rest)) at))) rest (λ n. answersFrom byte0 (at + 1 + n) cs (drop n rest)))
     go ih false z = let n = eqb-false (answerFault byte0 (c .count) (none cs) h (length rest)) 0 z in omega arith
-    go ih true z = some-last (lastOf h) _ _ (some-before _ (answersFrom byte0 cs (drop (countOf h) rest)) (ih (countOf h)))
+    go ih true z = some-last (lastOf h) _ _ (some-before _ (answersFrom byte0 (at + 1 + countOf h) cs (drop (countOf h) rest)) (ih (countOf h)))
 
 some-unless : {A : Type 0} (b : Bool) (n : ℕ) (p : Reading A) → 0 < n → Some p → Some (cond b p (Wrong (refusal n)))
 some-unless true n p h s = s
@@ -126,7 +120,7 @@ pub judge-some : (r : Request) (dg : List ℕ) → Some (judge r dg)
 unfolding judge
 judge-some r dg =
     some-unless (lengthOk (length dg)) 32 _ (omega arith)
-    (some-unless (eqb (getD dg 0 0) (answerByte (r .byte0))) 33 _ (omega arith) (answers-some (r .byte0) (r .commands) (wordsOf dg)))
+    (some-unless (eqb (getD dg 0 0) (answerByte (r .byte0))) 33 _ (omega arith) (answers-some (r .byte0) 0 (r .commands) (wordsOf dg)))
 
 -- an accepted answer's first byte is the request's with the kind made 3
 pub judge-first : (r : Request) (dg : List ℕ) (items : List Answered) → judge r dg ≡ Means items → getD dg 0 0 ≡ answerByte (r .byte0)

@@ -5,17 +5,17 @@ use mathlib.Core.Bool.{Bool, true, false, cond, not, _&&_, _||_, false≢true}
 use mathlib.Core.List.{List, [], _∷_, _++_, append-assoc, append-nil}
 use native.Mathlib.Omega.{arith}
 use lib.Dec.{eqb}
-use lib.ListN.{length, getD, length-append}
+use lib.ListN.{length, getD}
 use Rattle.word.specs.Words.{wordsOf, bytesOf, Words, Below}
 use Rattle.word.proofs.Runs.{below-append}
 use Rattle.word.proofs.Crossing.{words-back, bytes-below}
 use Rattle.message.specs.Limits.{limit}
-use Rattle.message.specs.Header.{kindOf, headerFrom, addressWords, bodyWords, replyWords}
-use Rattle.message.specs.Walk.{refusal, asks, gapless, patternOk}
+use Rattle.message.specs.Header.{kindOf, headerFrom, addressWords, replyWords}
+use Rattle.message.specs.Walk.{refusedAt, refusal, asks, gapless, patternOk}
 use Rattle.message.specs.Request.{Command, Wrong, addressIn, addressTop, lengthOk, read, commandWords, none, requestWords, written, replies, All, FitsCommand}
 use Rattle.message.specs.Refusals.{openWords, faultIn, FaultAfter}
-use Rattle.message.proofs.Laws.Headers.{byte0-back, address-le}
-use Rattle.message.proofs.Laws.Round.{address-long, command-words, length-right}
+use Rattle.message.proofs.Laws.Headers.{byte0-back}
+use Rattle.message.proofs.Laws.Round.{none-before, command-words, length-right}
 use Rattle.message.proofs.Laws.Exactly.{exactly, counted-asks}
 
 -- an address of none, one and two words, and what they can carry
@@ -93,8 +93,7 @@ unfolding All
 all-none P = tt
 
 pub none-more : {A : Type 0} (xs : List A) (x : A) → none (xs ++ x ∷ []) ≡ false
-none-more [] x = refl
-none-more (y ∷ xs) x = refl
+none-more xs x = none-before xs x []
 
 -- nothing added
 pub open-none : (byte0 : ℕ) → openWords byte0 [] ≡ []
@@ -118,13 +117,6 @@ some-pattern count address = go (eqb count 1) (eqb count 2 && eqb (address % 8) 
     go false true = refl
     go false false = refl
 
--- a fitting command's words
-pub command-long : (byte0 : ℕ) (last : Bool) (c : Command) → FitsCommand byte0 c → length (commandWords byte0 last c) ≡ 1 + bodyWords byte0 (c .count)
-unfolding commandWords
-command-long byte0 last c f =
-    let ad : List ℕ = addressIn (addressWords byte0) (c .address) in
-    omega (arith, length-append ad (c .payload), address-long (addressWords byte0) (c .address) (address-le byte0), f .long)
-
 module _ (byte0 : ℕ) (hb : byte0 < 256) where
   asking : (cs : List Command) → none cs ≡ false → All (FitsCommand byte0) cs → asks (kindOf byte0) ≡ true
   unfolding All
@@ -147,17 +139,17 @@ module _ (byte0 : ℕ) (hb : byte0 < 256) where
   open-some (c ∷ cs) h = omega arith
 
   open-three : (cs : List Command) → none cs ≡ false → All (FitsCommand byte0) cs → length (openWords byte0 cs) ≤ limit
-      → read (bytesOf (openWords byte0 cs)) ≡ Wrong (refusal 3)
+      → read (bytesOf (openWords byte0 cs)) ≡ Wrong (refusedAt 3 (length (openWords byte0 cs)))
   unfolding faultIn
   open-three cs h f k =
       let ws : List ℕ = openWords byte0 cs in
       let e : wordsOf (bytesOf ws) ≡ openWords byte0 cs ++ [] = words-back ws (open-words (asking cs h f) cs f) ∙ sym (append-nil ws) in
-      let after : FaultAfter (getD (bytesOf ws) 0 0) 3 (wordsOf (bytesOf ws)) = rw (open-first cs h f) (record { good = cs; fit = f; tail = []; is = e; fault = refl }) in
-      exactly (bytesOf ws) (bytes-below ws) .faults 3 (omega arith) (omega arith) .1 (length-right ws (open-some cs h) k, after)
+      let after : FaultAfter (getD (bytesOf ws) 0 0) 3 (length ws) (wordsOf (bytesOf ws)) = rw (open-first cs h f) (record { good = cs; fit = f; tail = []; is = e; fault = refl; place = refl }) in
+      exactly (bytesOf ws) (bytes-below ws) .faults 3 (length ws) (omega arith) (omega arith) .1 (length-right ws (open-some cs h) k, after)
 
-  -- commands none of which is LAST are refused: 2 where there are none, else 3
+  -- commands none of which is LAST are refused: 2 where there are none, else 3 behind them
   pub open-refused : (cs : List Command) → All (FitsCommand byte0) cs → length (openWords byte0 cs) ≤ limit
-      → read (bytesOf (openWords byte0 cs)) ≡ Wrong (refusal (cond (none cs) 2 3))
+      → read (bytesOf (openWords byte0 cs)) ≡ Wrong (cond (none cs) (refusal 2) (refusedAt 3 (length (openWords byte0 cs))))
   unfolding read lengthOk openWords bytesOf
   open-refused [] f k = refl
   open-refused (c ∷ cs) f k = open-three (c ∷ cs) refl f k

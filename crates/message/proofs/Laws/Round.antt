@@ -14,7 +14,7 @@ use Rattle.word.proofs.Crossing.{words-back}
 use Rattle.message.specs.declared.walk.Step.the-variants.{Read, Refused}
 use Rattle.message.specs.Limits.{limit, limitBytes}
 use Rattle.message.specs.Header.{kindOf, byte0Of, byte1Of, countOf, reservedOf, lastOf, headerFrom, addressWords, dataWords, bodyWords, headOf}
-use Rattle.message.specs.Walk.{refusal, asks, endsOk, stepOn}
+use Rattle.message.specs.Walk.{asks, endsOk, stepOn}
 use Rattle.message.specs.Request.{Command, Request, Reading, Wrong, Means, addressFrom, addressIn, addressTop, commandOf, before, commandsFrom, replies, ended, lengthOk, read, commandWords, none, requestWords, written, FitsCommand, All, FitsAsked, Fits}
 use Rattle.message.proofs.Laws.Headers.{byte0-back, byte1-back, count-back, reserved-back, last-back, header-lt, address-le}
 use Rattle.message.proofs.Laws.Faults.{Sound, faultless, step-read, skipped}
@@ -33,11 +33,23 @@ address-back zero a r h = omega arith
 address-back (suc zero) a r h = refl
 address-back (suc (suc n)) a r h = omega arith
 
+-- a fitting command's words
+pub command-long : (byte0 : ℕ) (last : Bool) (c : Command) → FitsCommand byte0 c → length (commandWords byte0 last c) ≡ 1 + bodyWords byte0 (c .count)
+unfolding commandWords
+command-long byte0 last c f =
+    let ad : List ℕ = addressIn (addressWords byte0) (c .address) in
+    omega (arith, length-append ad (c .payload), address-long (addressWords byte0) (c .address) (address-le byte0), f .long)
+
 address-words : (n a : ℕ) → a < addressTop n → Words (addressIn n a)
 unfolding addressIn addressTop Rattle.word.specs.Words.Below
 address-words zero a h = tt
 address-words (suc zero) a h = (h, tt)
 address-words (suc (suc n)) a h = (omega arith, (omega arith, tt))
+
+-- something follows
+pub none-before : {A : Type 0} (xs : List A) (y : A) (ys : List A) → none (xs ++ y ∷ ys) ≡ false
+none-before [] y ys = refl
+none-before (x ∷ xs) y ys = refl
 
 -- LAST, and how many words are left behind a body of n
 pub ends-at : (l : Bool) (n m : ℕ) → (l ≡ true → m ≡ 0) → endsOk l n (n + m) ≡ true
@@ -94,27 +106,27 @@ module _ (byte0 : ℕ) (hb : byte0 < 256) (asking : asks (kindOf byte0) ≡ true
         )
 
     -- one command's words, whatever follows them where LAST is clear
-    pub one-back : (r : List ℕ) → (l ≡ true → length r ≡ 0)
-        → commandsFrom byte0 0 (commandWords byte0 l c ++ r) ≡ cond l (Means (c ∷ [])) (before c (commandsFrom byte0 0 r))
+    pub one-back : (at : ℕ) (r : List ℕ) → (l ≡ true → length r ≡ 0)
+        → commandsFrom byte0 at 0 (commandWords byte0 l c ++ r) ≡ cond l (Means (c ∷ [])) (before c (commandsFrom byte0 (at + 1 + bodyWords byte0 (c .count)) 0 r))
     unfolding commandsFrom commandWords headOf
-    one-back r e =
+    one-back at r e =
         let whole : length (ad ++ c .payload ++ r) ≡ bodyWords byte0 (c .count) + length r = length-append (ad ++ c .payload) r ∙ rw body-long in
-        let st : stepOn byte0 h (length (ad ++ c .payload ++ r)) (addressFrom (addressWords byte0) (ad ++ c .payload ++ r)) ≡ Read (headOf byte0 h) =
-        rw (whole, address-is r) (step-read byte0 h _ _ (faultless byte0 h _ _ (sound-header (length r) e))) in
+        let st : stepOn byte0 at h (length (ad ++ c .payload ++ r)) (addressFrom (addressWords byte0) (ad ++ c .payload ++ r)) ≡ Read (headOf byte0 h) =
+        rw (whole, address-is r) (step-read byte0 at h _ _ (faultless byte0 h _ _ (sound-header (length r) e))) in
         rw (
           st,
           command-is r,
           last-back byte0 (c .byte1) (c .count) l hb (f .byte) (f .twelve),
           count-is,
-          skipped byte0 (bodyWords byte0 (c .count)) (ad ++ c .payload ++ r),
+          skipped byte0 (at + 1 + bodyWords byte0 (c .count)) (bodyWords byte0 (c .count)) (ad ++ c .payload ++ r),
           drop-at (ad ++ c .payload) r (bodyWords byte0 (c .count)) body-long,
         )
 
-  pub all-back : (cs : List Command) → none cs ≡ false → All (FitsCommand byte0) cs → commandsFrom byte0 0 (requestWords byte0 cs) ≡ Means cs
+  pub all-back : (at : ℕ) (cs : List Command) → none cs ≡ false → All (FitsCommand byte0) cs → commandsFrom byte0 at 0 (requestWords byte0 cs) ≡ Means cs
   unfolding All requestWords
-  all-back [] h f = absurd (false≢true (sym h))
-  all-back (c ∷ []) h f = one-back true c (f .0) [] (λ e. refl)
-  all-back (c ∷ d ∷ cs) h f = one-back false c (f .0) (requestWords byte0 (d ∷ cs)) (λ e. absurd (false≢true e)) ∙ rw (all-back (d ∷ cs) refl (f .1))
+  all-back at [] h f = absurd (false≢true (sym h))
+  all-back at (c ∷ []) h f = one-back true c (f .0) at [] (λ e. refl)
+  all-back at (c ∷ d ∷ cs) h f = one-back false c (f .0) at (requestWords byte0 (d ∷ cs)) (λ e. absurd (false≢true e)) ∙ rw (all-back (at + 1 + bodyWords byte0 (c .count)) (d ∷ cs) refl (f .1))
 
   -- a fitting command's words are words
   pub command-words : (l : Bool) (c : Command) → FitsCommand byte0 c → Words (commandWords byte0 l c)
@@ -156,7 +168,7 @@ read-asked r f =
       length-right ws (request-some (r .byte0) (r .commands) (f .some)) (f .short),
       first-byte (r .byte0) (r .commands) (f .byte) (f .some) (f .all),
       words-back ws (request-words (r .byte0) (f .byte) (f .asking) (r .commands) (f .all)),
-      all-back (r .byte0) (f .byte) (f .asking) (r .commands) (f .some) (f .all),
+      all-back (r .byte0) (f .byte) (f .asking) 0 (r .commands) (f .some) (f .all),
     )
 
 -- "a fitting request's bytes read as itself"

@@ -1,4 +1,4 @@
--- Every example gets its number, and the patterns of enables are as many as they should be: computed. Assumes nothing.
+-- Every example gets its refusal, and the patterns of enables are as many as they should be: computed. Assumes nothing.
 use mathlib.Core.Path.{_≡_, refl}
 use mathlib.Core.Bool.{Bool, true, _&&_}
 use Rattle.word.specs.Words.{wordsOf, bytesOf}

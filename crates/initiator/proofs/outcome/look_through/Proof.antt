@@ -45,7 +45,7 @@ loop-holds : tie.Need-loop-holds Inv-loop μ-loop
 loop-holds c = rw (c .refused .ensures) (sides-starts _ _ _ _ (c .before .before .before .pre .0) (c .before .before .before .pre .1))
 
 look-beside-requires : tie.Need-look-beside-requires Inv-loop μ-loop
-look-beside-requires c κs = inside c
+look-beside-requires c κs = (inside c, let g = c .loop .inv in omega (arith, g .within, g .most))
 
 enum-known-look : tie.Need-enum-known-look Inv-loop μ-loop
 enum-known-look c = search needs

@@ -1,5 +1,5 @@
 -- `initiator::outcome::told` meets its contract: check by check. Assumes nothing.
-use mathlib.Core.Path.{_≡_, sym, _∙_}
+use mathlib.Core.Path.{_≡_, sym, ap, _∙_}
 use native.Mathlib.Omega.{arith}
 use denote.Ref.{now}
 use lib.ListN.{getD, length}
@@ -11,6 +11,7 @@ use Rattle.message.specs.Header.{discoveryOf}
 use Rattle.message.specs.Request.{lengthOk}
 use Rattle.message.proofs.Laws.Back.{right}
 use Rattle.message.proofs.Laws.Going.{Meant, walk-means, walk-wrong, read-first}
+use Rattle.initiator.specs.Outcome.{refusedWith, malformedBy}
 use Rattle.initiator.proofs.Laws.Told.{told-wrong, ready, told-discovery, told-long, told-byte, told-through}
 use borrow.Author.Needs.{needs}
 use Rattle.initiator.proofs.outcome.told.Statement.{statement}
@@ -54,12 +55,17 @@ enum-told c = search needs
 enum-told-2 : tie.Need-enum-told-2
 enum-told-2 c = search needs
 
+malformed-requires : tie.Need-malformed-requires
+malformed-requires c κs = search needs
+
 refused-requires : tie.Need-refused-requires
 refused-requires c κs = search needs
 
 returns : tie.Need-returns
 returns c =
-    c .refused .ensures ∙ told-wrong _ _ _ _ (walk-wrong _ _ (sym (c .before .before .before .walk .ensures) ∙ c .before .enum-told2 .given .1))
+    let m = c .before in
+    let t = m .before .enum-told2 .given .1 in
+    c .refused .ensures ∙ ap refusedWith (m .malformed .ensures ∙ ap malformedBy t) ∙ told-wrong _ _ _ _ (walk-wrong _ _ (sym (m .before .before .before .walk .ensures) ∙ t))
 
 shared-slice-read-wide : tie.Need-shared-slice-read-wide
 shared-slice-read-wide c = omega (arith, read-first _ _ (meant (c .before) .is) .0 .some)
@@ -135,6 +141,7 @@ told-spec =
     walk-requires
     enum-told
     enum-told-2
+    malformed-requires
     refused-requires
     returns
     shared-slice-read-wide

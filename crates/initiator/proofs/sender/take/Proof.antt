@@ -3,6 +3,7 @@ use mathlib.Core.Path.{_≡_, sym, _∙_}
 use Rattle.word.proofs.Rules.{eqb-on, eqb-off}
 use mathlib.Core.Path.{ap}
 use native.Mathlib.Omega.{arith}
+use Rattle.message.proofs.Laws.Faults.{number-is}
 use Rattle.initiator.specs.declared.outcome.Outcome.{Outcome}
 use Rattle.initiator.specs.Sender.{takeOf}
 use Rattle.initiator.proofs.Laws.Sending.{send-next, take-wrong, take-right}
@@ -10,12 +11,12 @@ use borrow.Author.Needs.{needs}
 use Rattle.initiator.proofs.sender.take.Statement.{statement}
 use Rattle.initiator.proofs.sender.take.Tie as tie
 
-send-fault-requires : tie.Need-send-fault-requires
-send-fault-requires c κs = search needs
+send-refusal-requires : tie.Need-send-refusal-requires
+send-refusal-requires c κs = search needs
 
 returns : tie.Need-returns
 unfolding takeOf
-returns c = simp (eqb-off (c .before .send-fault .ensures) (c .if1 .taken), c .before .send-fault .ensures)
+returns c = let e = c .before .before .send-refusal .ensures in simp (eqb-off (number-is e) (c .if1 .taken), e)
 
 told-requires : tie.Need-told-requires
 told-requires c κs = search needs
@@ -25,20 +26,20 @@ unfolding takeOf
 returns-2 c =
     let t = c .before .before .before in
     let e = t .before in
-    rw (eqb-on (e .before .send-fault .ensures) (e .if1 .left)) (take-wrong _ _ _ (ap (λ (x : Outcome). x .refusal) (t .told .ensures)) (c .if2 .taken))
+    rw (eqb-on (number-is (e .before .before .send-refusal .ensures)) (e .if1 .left)) (take-wrong _ _ _ (ap (λ (x : Outcome). x .refusal) (t .told .ensures)) (c .if2 .taken))
 
-add-t9 : tie.Need-add-t9
-add-t9 c =
+add-t8 : tie.Need-add-t8
+add-t8 c =
     let e = c .before .before .before .before .before in
-    omega (arith, send-next _ _ (sym (e .before .send-fault .ensures) ∙ e .if1 .left))
+    omega (arith, send-next _ _ (sym (number-is (e .before .before .send-refusal .ensures)) ∙ e .if1 .left))
 
 returns-3 : tie.Need-returns-3
 unfolding takeOf
 returns-3 c =
     let t = c .before .before .before .before in
     let e = t .before in
-    rw (eqb-on (e .before .send-fault .ensures) (e .if1 .left)) (take-right _ _ _ (ap (λ (x : Outcome). x .refusal) (t .told .ensures)) (c .before .if2 .left))
+    rw (eqb-on (number-is (e .before .before .send-refusal .ensures)) (e .if1 .left)) (take-right _ _ _ (ap (λ (x : Outcome). x .refusal) (t .told .ensures)) (c .before .if2 .left))
 
 pub take-spec : {M : Type 1} → statement M
 take-spec =
-    tie.close (tie.spec send-fault-requires returns told-requires returns-2 add-t9 returns-3)
+    tie.close (tie.spec send-refusal-requires returns told-requires returns-2 add-t8 returns-3)

@@ -1,4 +1,4 @@
--- `loader::building::charkhavo_refusal` meets its contract: the walk refuses what cannot be read, by the same number. Assumes nothing.
+-- `loader::building::charkhavo_refusal` meets its contract: the walk refuses what cannot be read, by the same refusal. Assumes nothing.
 use mathlib.Core.Path.{_≡_, sym, _∙_, ap}
 use Rattle.message.specs.Request.{refusalIn}
 use Rattle.message.proofs.Laws.Going.{walk-means, walk-wrong}

@@ -1,7 +1,6 @@
 -- `loader::sending::charkhavo_send` meets its contract: the refusal, and all the message's bytes or none. Assumes nothing.
-use mathlib.Core.Path.{ap}
 use Rattle.word.proofs.Rules.{eqb-on, eqb-off}
-use Rattle.message.specs.declared.refusal.Refusal.{Refusal}
+use Rattle.message.proofs.Laws.Faults.{number-is}
 use Rattle.initiator.specs.Sender.{sendOf}
 use Rattle.loader.specs.Sending.{sendingOf}
 use borrow.Author.Needs.{needs}
@@ -15,13 +14,13 @@ returns : tie.Need-returns
 unfolding sendingOf sendOf
 returns c =
     let is = c .before .before .send-refusal .ensures in
-    simp (is, eqb-off (ap (λ (r : Refusal). r .number) is) (c .if1 .taken))
+    simp (is, eqb-off (number-is is) (c .if1 .taken))
 
 returns-2 : tie.Need-returns-2
 unfolding sendingOf sendOf
 returns-2 c =
     let is = c .before .before .send-refusal .ensures in
-    simp (is, eqb-on (ap (λ (r : Refusal). r .number) is) (c .if1 .left))
+    simp (is, eqb-on (number-is is) (c .if1 .left))
 
 pub charkhavo-send-spec : {M : Type 1} → statement M
 charkhavo-send-spec = tie.close (tie.spec send-refusal-requires returns returns-2)

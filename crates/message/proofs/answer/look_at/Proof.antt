@@ -6,6 +6,9 @@ use borrow.Author.Needs.{needs}
 use Rattle.message.proofs.answer.look_at.Statement.{statement}
 use Rattle.message.proofs.answer.look_at.Tie as tie
 
+cast-place : tie.Need-cast-place
+cast-place c = search needs
+
 returns : tie.Need-returns
 unfolding lookAt
 returns c = search (tests, length-wordsOf)
@@ -29,4 +32,4 @@ returns-2 c = search (tests, length-wordsOf, c .look-on .ensures, c .before .wor
 pub look-at-spec : {M : Type 1} → statement M
 look-at-spec =
     tie.close
-    (tie.spec returns word-at-requires sub-look-on sub-look-on-2 look-on-requires returns-2)
+    (tie.spec cast-place returns word-at-requires sub-look-on sub-look-on-2 look-on-requires returns-2)

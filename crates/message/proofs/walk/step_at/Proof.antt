@@ -13,6 +13,9 @@ use borrow.Author.Needs.{needs}
 use Rattle.message.proofs.walk.step_at.Statement.{statement}
 use Rattle.message.proofs.walk.step_at.Tie as tie
 
+cast-place : tie.Need-cast-place
+cast-place c = search needs
+
 returns : tie.Need-returns
 unfolding stepAt
 returns c = search (tests, length-wordsOf)
@@ -35,8 +38,8 @@ byte1-requires c κs = search needs
 address-words-requires : tie.Need-address-words-requires
 address-words-requires c κs = search needs
 
-add-t14 : tie.Need-add-t14
-add-t14 c = search needs
+add-t15 : tie.Need-add-t15
+add-t15 c = search needs
 
 last-requires : tie.Need-last-requires
 last-requires c κs = search needs
@@ -49,7 +52,7 @@ returns-2 c =
     let a = w .before .before .before .args in
     let s = t .before .short-write .ensures (t .if2 .taken) in
     let address = addressFrom (addressWords (a .byte0)) (drop (a .at + 1) (wordsOf (a .datagram .now))) in
-    rw (length-wordsOf (a .datagram .now), ← w .word-at .ensures, lt-ltb _ _ (w .before .if1 .left), step-read _ _ _ _ (s .2 address))
+    rw (length-wordsOf (a .datagram .now), ← w .word-at .ensures, lt-ltb _ _ (w .before .if1 .left), step-read _ _ _ _ _ (s .2 address))
     (simp (s .0, s .1, c .before .before .byte1 .ensures .0, c .before .address-words .ensures .0, c .last .ensures))
 
 fault-requires : tie.Need-fault-requires
@@ -75,6 +78,7 @@ pub step-at-spec : {M : Type 1} → statement M
 step-at-spec =
     tie.close
     (tie.spec
+    cast-place
     returns
     word-at-requires
     sub-left
@@ -82,7 +86,7 @@ step-at-spec =
     short-write-requires
     byte1-requires
     address-words-requires
-    add-t14
+    add-t15
     last-requires
     returns-2
     fault-requires

@@ -1,8 +1,8 @@
--- `bench_sheet::sent_words` meets its contract: each word lies within the output, and the turns left fall. Assumes nothing.
+-- `bench_sheet::print::sent_words` meets its contract: each word lies within the output, and the turns left fall. Assumes nothing.
 use borrow.Author.Needs.{needs}
 use Prim.Native.Nat.{_-_}
-use Rattle.bench_sheet.proofs.sent_words.Statement.{statement}
-use Rattle.bench_sheet.proofs.sent_words.Tie as tie
+use Rattle.bench_sheet.proofs.print.sent_words.Statement.{statement}
+use Rattle.bench_sheet.proofs.print.sent_words.Tie as tie
 
 abbrev Inv-loop : tie.InvT-loop
 Inv-loop output words i₀ t4 t5 i = Unit {0}
