@@ -1,16 +1,18 @@
 -- What is promised of the sender, in other words than its definitions. The proofs are in proofs/Laws/Promised.antt. Assumes nothing.
-use Prim.Native.Nat.{ℕ, _+_, _%_}
+use Prim.Native.Nat.{ℕ, _+_, _%_, _<_}
 use mathlib.Core.Path.{_≡_}
-use mathlib.Core.Bool.{false}
+use mathlib.Core.Bool.{true, false}
 use mathlib.Core.List.{List}
 use lib.ListN.{getD}
+use Rattle.message.specs.declared.refusal.Refusal.{Refusal}
 use Rattle.message.specs.Header.{tagOf, discoveryOf}
-use Rattle.message.specs.Request.{Request, Reading, Means, read, Fits}
-use Rattle.message.specs.Answer.{Answered, encodeAnswer, FitsAnswer}
+use Rattle.message.specs.Walk.{refusedAt}
+use Rattle.message.specs.Request.{Request, Wrong, Means, read, Fits}
+use Rattle.message.specs.Answer.{Answered, judge, encodeAnswer, FitsAnswer}
 use Rattle.initiator.specs.declared.sender.Sender.{Sender}
 use Rattle.initiator.specs.declared.sender.Moved.{Moved}
-use Rattle.initiator.specs.Outcome.{judgedBy}
-use Rattle.initiator.specs.Sender.{sendFault, offerOf, takeOf}
+use Rattle.initiator.specs.Outcome.{judgedBy, outcomeOf}
+use Rattle.initiator.specs.Sender.{sendFault, offerOf, takeOf, discoveryRequest, startOf}
 
 -- a refusal leaves the sender as it was
 abbrev pub KeepsRefused : Sender → Moved → Type 0
@@ -39,3 +41,19 @@ AcceptedIs s message answer = takeOf s message answer .refusal .number ≡ 0 →
 -- acceptance depends on request and answer alone: whichever sender the message waits at
 abbrev pub Alone : Sender → Sender → List ℕ → List ℕ → Type 0
 Alone s t message answer = sendFault s message .number ≡ 0 → sendFault t message .number ≡ 0 → takeOf s message answer .refusal ≡ takeOf t message answer .refusal
+
+-- "31 .. gives the index in the request": that of the refusal which any controller would give it, whichever call says 31
+pub record SaysWhere (message : List ℕ) (at : ℕ) : Type 0 where
+  pub offer : (s : Sender) → s .next < 16 → s .waits ≡ false → offerOf s message .refusal ≡ refusedAt 31 at
+  pub send : (s : Sender) → s .next < 16 → s .waits ≡ true → sendFault s message ≡ refusedAt 31 at
+  pub take : (s : Sender) (answer : List ℕ) → s .next < 16 → s .waits ≡ true → takeOf s message answer .refusal ≡ refusedAt 31 at
+  pub told : (answer : List ℕ) (k : ℕ) → outcomeOf message answer k .refusal ≡ refusedAt 31 at
+
+abbrev pub Where : List ℕ → Type 0
+Where message = (n at : ℕ) → read message ≡ Wrong (refusedAt n at) → SaysWhere message at
+
+-- "33 to 35" likewise: what an answer is judged to be is what each call says of it
+pub record HandsOn (answer : List ℕ) (r : Refusal) : Type 0 where
+  pub take : (s : Sender) (message : List ℕ) → sendFault s message .number ≡ 0 → judgedBy (read message) answer ≡ Wrong r → takeOf s message answer .refusal ≡ r
+  pub told : (message : List ℕ) (k : ℕ) → judgedBy (read message) answer ≡ Wrong r → outcomeOf message answer k .refusal ≡ r
+  pub start : judge discoveryRequest answer ≡ Wrong r → startOf answer .refusal ≡ r

@@ -4,13 +4,13 @@ use mathlib.Core.Path.{_≡_, refl, sym, ap, _∙_}
 use mathlib.Core.Bool.{Bool, true, false, cond}
 use mathlib.Core.List.{List}
 use native.Mathlib.Omega.{arith}
-use borrow.Author.Tests.{eq-eqb, eqb-true, eqb-false}
+use borrow.Author.Tests.{eq-eqb, eqb-true, eqb-false, lt-ltb}
 use lib.Dec.{eqb}
 use lib.ListN.{length, getD}
 use Rattle.word.specs.Words.{Bytes}
 use Rattle.message.specs.declared.refusal.Refusal.{Refusal}
 use Rattle.message.specs.Header.{tagOf, discoveryOf}
-use Rattle.message.specs.Walk.{refusal}
+use Rattle.message.specs.Walk.{refusedAt, refusal}
 use Rattle.message.specs.Request.{Request, Reading, Wrong, Means, read, Fits}
 use Rattle.message.specs.Answer.{Answered, answerByte, judge, encodeAnswer}
 use Rattle.message.proofs.Laws.Faults.{no-mean}
@@ -22,10 +22,12 @@ use Rattle.message.proofs.Laws.Answers.{answer-tag, answer-discovery}
 use Rattle.message.proofs.Laws.Looking.{Some}
 use Rattle.initiator.specs.declared.sender.Sender.{Sender}
 use Rattle.initiator.specs.declared.sender.Moved.{Moved}
-use Rattle.initiator.specs.Outcome.{judgedBy}
-use Rattle.initiator.specs.Sender.{offerFault, sendFault, offerOf, takenBy, takeOf}
-use Rattle.initiator.specs.Promises.{KeepsRefused, Accepted, AcceptedIs, Alone}
-use Rattle.initiator.proofs.Laws.Sending.{answer-some}
+use Rattle.initiator.specs.declared.outcome.Outcome.{Outcome}
+use Rattle.initiator.specs.Outcome.{judgedBy, toldOf, outcomeOf}
+use Rattle.initiator.specs.Sender.{askFault, offerFault, sendFault, offerOf, takenBy, takeOf, startOf}
+use Rattle.initiator.specs.Promises.{KeepsRefused, Accepted, AcceptedIs, Alone, Where, HandsOn}
+use Rattle.initiator.proofs.Laws.Sending.{fault-wrong, answer-some}
+use Rattle.initiator.proofs.Laws.Told.{told-wrong}
 
 -- a refusal leaves the sender as it was
 pub offer-keeps : (s : Sender) (message : List ℕ) → KeepsRefused s (offerOf s message)
@@ -116,3 +118,31 @@ taken-refusal s t (Means items) = refl
 
 pub alone : (s t : Sender) (message answer : List ℕ) → Alone s t message answer
 alone s t message answer e f = rw (take-judged s message answer e, take-judged t message answer f) (taken-refusal s t (judgedBy (read message) answer))
+
+-- 31 has the index of what is wrong with the request
+ask-where : (next : ℕ) (message : List ℕ) (n at : ℕ) → read message ≡ Wrong (refusedAt n at) → askFault next (read message) ≡ refusedAt 31 at
+ask-where next message n at e = sym (fault-wrong next message (refusedAt n at) e)
+
+send-where : (s : Sender) (message : List ℕ) (n at : ℕ) → read message ≡ Wrong (refusedAt n at) → s .next < 16 → s .waits ≡ true → sendFault s message ≡ refusedAt 31 at
+unfolding sendFault
+send-where s message n at e l w = rw (lt-ltb (s .next) 16 l, w) (ask-where (s .next) message n at e)
+
+pub where-refused : (message : List ℕ) → Where message
+unfolding offerOf offerFault takeOf
+where-refused message n at e =
+    record {
+      offer = λ s l w. rw (lt-ltb (s .next) 16 l, w) (ask-where (s .next) message n at e);
+      send = λ s l w. send-where s message n at e l w;
+      take = λ s answer l w. rw (send-where s message n at e l w);
+      told = λ answer k. ap (λ (o : Outcome). o .refusal) (sym (told-wrong message answer k (refusedAt n at) e));
+    }
+
+-- and 32 to 35 are handed on as they are
+pub hands-on : (answer : List ℕ) (r : Refusal) → HandsOn answer r
+unfolding outcomeOf toldOf startOf
+hands-on answer r =
+    record {
+      take = λ s message e j. ap (λ (m : Moved). m .refusal) (take-judged s message answer e ∙ ap (takenBy s) j);
+      told = λ message k j. rw j;
+      start = λ j. rw j;
+    }
