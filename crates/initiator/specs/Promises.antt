@@ -52,6 +52,10 @@ pub record SaysWhere (message : List ℕ) (at : ℕ) : Type 0 where
 abbrev pub Where : List ℕ → Type 0
 Where message = (n at : ℕ) → read message ≡ Wrong (refusedAt n at) → SaysWhere message at
 
+-- "All others, also 31 for .. the tag, give 0": of a well-formed message no sender's call says where
+abbrev pub OthersGiveZero : List ℕ → Type 0
+OthersGiveZero message = (r : Request) → read message ≡ Means r → (s : Sender) → (offerOf s message .refusal .at ≡ 0) × (sendFault s message .at ≡ 0)
+
 -- "33 to 35" likewise: what an answer is judged to be is what each call says of it
 pub record HandsOn (answer : List ℕ) (r : Refusal) : Type 0 where
   pub take : (s : Sender) (message : List ℕ) → sendFault s message .number ≡ 0 → judgedBy (read message) answer ≡ Wrong r → takeOf s message answer .refusal ≡ r

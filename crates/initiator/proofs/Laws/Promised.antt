@@ -1,31 +1,30 @@
 -- The sender's promises. Whoever stands above the sender cites these. Assumes nothing.
 use Prim.Native.Nat.{ℕ, _+_, _%_, _<_}
 use mathlib.Core.Path.{_≡_, refl, sym, ap, _∙_}
-use mathlib.Core.Bool.{Bool, true, false, cond}
+use mathlib.Core.Bool.{Bool, true, false, not, cond}
 use mathlib.Core.List.{List}
 use native.Mathlib.Omega.{arith}
 use borrow.Author.Tests.{eq-eqb, eqb-true, eqb-false, lt-ltb}
-use lib.Dec.{eqb}
-use lib.ListN.{length, getD}
+use lib.Dec.{ltb, eqb}
+use lib.ListN.{getD}
 use Rattle.word.specs.Words.{Bytes}
 use Rattle.message.specs.declared.refusal.Refusal.{Refusal}
 use Rattle.message.specs.Header.{tagOf, discoveryOf}
-use Rattle.message.specs.Walk.{refusedAt, refusal}
-use Rattle.message.specs.Request.{Request, Reading, Wrong, Means, read, Fits}
-use Rattle.message.specs.Answer.{Answered, answerByte, judge, encodeAnswer}
+use Rattle.message.specs.Walk.{refusedAt, refusal, unless}
+use Rattle.message.specs.Request.{Request, Reading, Wrong, Means, read}
+use Rattle.message.specs.Answer.{Answered, answerByte, judge}
 use Rattle.message.proofs.Laws.Faults.{no-mean}
 use Rattle.message.proofs.Laws.Back.{written-read}
 use Rattle.message.proofs.Laws.Going.{read-first}
 use Rattle.message.proofs.Laws.Judged.{encode-judged}
 use Rattle.message.proofs.Laws.Looking.{judge-first}
 use Rattle.message.proofs.Laws.Answers.{answer-tag, answer-discovery}
-use Rattle.message.proofs.Laws.Looking.{Some}
 use Rattle.initiator.specs.declared.sender.Sender.{Sender}
 use Rattle.initiator.specs.declared.sender.Moved.{Moved}
 use Rattle.initiator.specs.declared.outcome.Outcome.{Outcome}
 use Rattle.initiator.specs.Outcome.{judgedBy, toldOf, outcomeOf}
-use Rattle.initiator.specs.Sender.{askFault, offerFault, sendFault, offerOf, takenBy, takeOf, startOf}
-use Rattle.initiator.specs.Promises.{KeepsRefused, Accepted, AcceptedIs, Alone, Where, HandsOn}
+use Rattle.initiator.specs.Sender.{asksAs, askFault, offerFault, sendFault, offerOf, takenBy, takeOf, startOf}
+use Rattle.initiator.specs.Promises.{KeepsRefused, AcceptedIs, Alone, Where, OthersGiveZero, HandsOn}
 use Rattle.initiator.proofs.Laws.Sending.{fault-wrong, answer-some}
 use Rattle.initiator.proofs.Laws.Told.{told-wrong}
 
@@ -136,6 +135,23 @@ where-refused message n at e =
       take = λ s answer l w. rw (send-where s message n at e l w);
       told = λ answer k. ap (λ (o : Outcome). o .refusal) (sym (told-wrong message answer k (refusedAt n at) e));
     }
+
+-- and no other refusal has one
+unless-zero : (ok : Bool) (n : ℕ) (next : Refusal) → next .at ≡ 0 → unless ok (refusal n) next .at ≡ 0
+unless-zero true n next e = e
+unless-zero false n next e = refl
+
+ask-zero : (next : ℕ) (message : List ℕ) (r : Request) → read message ≡ Means r → askFault next (read message) .at ≡ 0
+unfolding askFault
+ask-zero next message r e = rw e (unless-zero (asksAs next (Means r)) 31 (refusal 0) refl)
+
+pub others-give-zero : (message : List ℕ) → OthersGiveZero message
+unfolding offerOf offerFault sendFault
+others-give-zero message r e s =
+    let zero = ask-zero (s .next) message r e in (
+      unless-zero (ltb (s .next) 16) 37 _ (unless-zero (not (s .waits)) 36 _ zero),
+      unless-zero (ltb (s .next) 16) 37 _ (unless-zero (s .waits) 30 _ zero),
+    )
 
 -- and 32 to 35 are handed on as they are
 pub hands-on : (answer : List ℕ) (r : Refusal) → HandsOn answer r

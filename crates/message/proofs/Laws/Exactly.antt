@@ -9,7 +9,7 @@ use native.Mathlib.Omega.{arith}
 use borrow.Author.Tests.{eqb-true, eqb-false, leb-false, lt-leb}
 use lib.Dec.{leb, eqb}
 use lib.ListN.{length, getD, drop, length-append}
-use Rattle.word.specs.Words.{wordsOf, bytesOf, Bytes, Words, Below}
+use Rattle.word.specs.Words.{wordsOf, Bytes, Words, Below}
 use Rattle.word.proofs.Runs.{below-nth}
 use Rattle.word.proofs.Crossing.{bytes-back, words-below, length-wordsOf}
 use Rattle.message.specs.declared.header.Kind.{Kind}
@@ -19,11 +19,11 @@ use Rattle.message.specs.declared.walk.Step.the-variants.{Read, Refused}
 use Rattle.message.specs.Limits.{limit}
 use Rattle.message.specs.Header.{kindOf, byte0Of, byte1Of, countOf, reservedOf, lastOf, addressWords, bodyWords, headOf}
 use Rattle.message.specs.Walk.{refusedAt, refusal, asks, countOk, enablesOk, endsOk, faultOf, stepOn}
-use Rattle.message.specs.Request.{Command, Request, Reading, Wrong, Means, commandOf, before, turn, commandsFrom, replies, ended, lengthOk, read, commandWords, requestWords, written, FitsCommand, All, FitsAsked, Fits}
+use Rattle.message.specs.Request.{Command, Request, Reading, Wrong, Means, commandOf, before, turn, commandsFrom, replies, ended, lengthOk, read, commandWords, written, FitsCommand, All}
 use Rattle.message.specs.Refusals.{openWords, faultIn, FaultAfter, TooLong, Exactly}
-use Rattle.message.proofs.Laws.Faults.{Between, unless-between, Further, SoundBefore, sound, faultBefore, step-refused, no-mean, same-refusal, number-is, at-is, before-wrong}
+use Rattle.message.proofs.Laws.Faults.{Between, unless-between, Further, further-here, further-on, further-at, SoundBefore, sound, faultBefore, step-refused, no-mean, same-refusal, number-is, at-is, before-wrong}
 use Rattle.message.proofs.Laws.Round.{command-long, one-back, read-asked, read-written}
-use Rattle.message.proofs.Laws.Back.{one-fits, one-is, Backed, commands-backed, Right, right, written-read}
+use Rattle.message.proofs.Laws.Back.{one-fits, one-is, commands-backed, right, written-read}
 
 -- no fault, or one of 3 to 9
 fault-walks : (byte0 h left address : ℕ) → Between 3 9 (faultOf byte0 h left address)
@@ -49,8 +49,7 @@ count-of byte0 h rest = refl
 -- no word there
 none-there : (byte0 at : ℕ) → Fault byte0 at (refusedAt 3 at) []
 unfolding faultIn openWords All
-none-there byte0 at =
-    record { least = omega arith; most = omega arith; on = 0; after = record { good = []; fit = tt; tail = []; is = refl; fault = refl; place = refl }; place = add-zero at }
+none-there byte0 at = further-here 3 at (omega arith) (omega arith) (record { good = []; fit = tt; tail = []; is = refl; fault = refl; place = refl })
 
 -- from the walk to the words: good commands, then the fault
 after-walk : (byte0 at skip : ℕ) (ws : List ℕ) (r : Refusal) → Words ws → commandsFrom byte0 at skip ws ≡ Wrong r → Fault byte0 at r (drop skip ws)
@@ -63,35 +62,27 @@ after-walk byte0 at zero (h ∷ rest) r e m = go (λ n x. after-walk byte0 (at +
     here : (eqb (faultBefore byte0 h rest) 0 ≡ false) → refusedAt (faultBefore byte0 h rest) at ≡ r → Fault byte0 at r (h ∷ rest)
     here z q =
         let w = fault-walks byte0 h (length rest) _ (eqb-false _ _ z) in
-        rw (← q)
-        (record { least = w .0; most = w .1; on = 0; after = record { good = []; fit = tt; tail = h ∷ rest; is = refl; fault = refl; place = refl }; place = add-zero at })
+        rw (← q) (further-here _ at (w .0) (w .1) (record { good = []; fit = tt; tail = h ∷ rest; is = refl; fault = refl; place = refl }))
 
     body : ℕ
     body = bodyWords byte0 (countOf h)
 
-    behind : SoundBefore byte0 h rest → lastOf h ≡ false → Fault byte0 (at + 1 + body) r (drop body rest) → Fault byte0 at r (h ∷ rest)
-    behind s l f =
-        let a = f .after in
+    behind : SoundBefore byte0 h rest → lastOf h ≡ false → (n on : ℕ) → FaultAfter byte0 n on (drop body rest) → FaultAfter byte0 n (1 + body + on) (h ∷ rest)
+    behind s l n on a =
         let c = commandOf byte0 h rest in
         let fits = one-fits byte0 h rest s (e .0) (e .1) in
         let is : h ∷ rest ≡ (commandWords byte0 false c ++ openWords byte0 (a .good)) ++ a .tail =
         sym (one-is byte0 h rest s (e .0) (e .1)) ∙ rw (l, a .is) (sym (append-assoc (commandWords byte0 false c) (openWords byte0 (a .good)) (a .tail))) in
-        let long : length (commandWords byte0 false c ++ openWords byte0 (a .good)) ≡ 1 + body + f .on =
+        let long : length (commandWords byte0 false c ++ openWords byte0 (a .good)) ≡ 1 + body + on =
         length-append (commandWords byte0 false c) (openWords byte0 (a .good)) ∙ rw (command-long byte0 false c fits, count-of byte0 h rest, a .place) in
-        record {
-          least = f .least;
-          most = f .most;
-          on = 1 + body + f .on;
-          after = record { good = c ∷ a .good; fit = (fits, a .fit); tail = a .tail; is = is; fault = a .fault; place = long };
-          place = omega (arith, f .place);
-        }
+        record { good = c ∷ a .good; fit = (fits, a .fit); tail = a .tail; is = is; fault = a .fault; place = long }
 
     by : SoundBefore byte0 h rest → ((n : ℕ) → commandsFrom byte0 (at + 1 + n) n rest ≡ Wrong r → Fault byte0 (at + 1 + n) r (drop n rest))
         → (b : Bool) → lastOf h ≡ b
         → cond b (Means (commandOf byte0 h rest ∷ [])) (before (commandOf byte0 h rest) (commandsFrom byte0 (at + 1 + body) body rest)) ≡ Wrong r
         → Fault byte0 at r (h ∷ rest)
     by s ih true l x = no-mean (sym x)
-    by s ih false l x = behind s l (ih body (before-wrong (commandOf byte0 h rest) _ x))
+    by s ih false l x = further-on at (1 + body) (at + 1 + body) (omega arith) (behind s l) (ih body (before-wrong (commandOf byte0 h rest) _ x))
 
     go : ((n : ℕ) → commandsFrom byte0 (at + 1 + n) n rest ≡ Wrong r → Fault byte0 (at + 1 + n) r (drop n rest))
         → (b : Bool) → eqb (faultBefore byte0 h rest) 0 ≡ b
@@ -176,7 +167,7 @@ module _ (dg : List ℕ) (hb : Bytes dg) where
     where
       go : Why dg (refusedAt n at) → (lengthOk (length dg) ≡ true) × FaultAfter (getD dg 0 0) n at (wordsOf dg)
       go (long l e) = absurd (omega (arith, number-is e))
-      go (walk l f) = let place : f .on ≡ at = omega (arith, f .place) in (l, rw place at (f .after))
+      go (walk l f) = (l, further-at n at f)
       go (over l cs w o e) = absurd (omega (arith, number-is e))
 
   ten-only : (at : ℕ) → read dg ≡ Wrong (refusedAt 10 at) → TooLong dg × (at ≡ 0)

@@ -1,6 +1,6 @@
 -- A header's faults and a reading's checks, passed one by one. The laws of requests and answers cite these. Assumes nothing.
 use Prim.Native.Nat.{ℕ, zero, suc, _+_, _-_, _*_, _/_, _%_, _<_, _≤_}
-use mathlib.Core.Path.{_≡_, refl, sym, ap, _∙_}
+use mathlib.Core.Path.{_≡_, refl, sym, ap, _∙_, subst}
 use mathlib.Core.Bool.{Bool, true, false, not, cond, _&&_, or-true, and-eq-true-iff, false≢true}
 use mathlib.Core.List.{List, [], _∷_, _++_}
 use native.Mathlib.Nat.{add-zero, div-div-eq-div-mul, mul-mod-right}
@@ -38,6 +38,18 @@ pub record Further (low high : ℕ) (After : ℕ → ℕ → Type 0) (at : ℕ) 
   pub on : ℕ
   pub after : After (r .number) on
   pub place : at + on ≡ r .at
+
+-- at that word itself; behind k words more; and, from word 0 on, at its own index
+pub further-here : {low high : ℕ} {After : ℕ → ℕ → Type 0} (n at : ℕ) → low ≤ n → n ≤ high → After n 0 → Further low high After at (refusedAt n at)
+further-here n at h k a = record { least = h; most = k; on = 0; after = a; place = add-zero at }
+
+pub further-on : {low high : ℕ} {Behind After : ℕ → ℕ → Type 0} {r : Refusal} (at k next : ℕ) → next ≡ at + k → ((n on : ℕ) → Behind n on → After n (k + on))
+    → Further low high Behind next r → Further low high After at r
+further-on {r = r} at k next e more f =
+    record { least = f .least; most = f .most; on = k + f .on; after = more (r .number) (f .on) (f .after); place = omega (arith, e, f .place) }
+
+pub further-at : {low high : ℕ} {After : ℕ → ℕ → Type 0} (n at : ℕ) → Further low high After 0 (refusedAt n at) → After n at
+further-at {After = After} n at f = let place : f .on ≡ at = omega (arith, f .place) in subst (After n) place (f .after)
 
 -- what stands in a header without fault
 pub record Sound (byte0 h left address : ℕ) : Type 0 where

@@ -18,7 +18,7 @@ use Rattle.message.specs.Walk.{refusedAt, refusal, endsOk}
 use Rattle.message.specs.Request.{Command, Request, Wrong, Means, before, lengthOk, none, FitsCommand, All, Fits}
 use Rattle.message.specs.Answer.{Answered, statusNo, answerByte, wanted, stops, answerFault, seenOf, lookOn, lookTurn, answersFrom, judge, answeredWords}
 use Rattle.message.specs.Refusals.{openAnswers, AllOk, answerFaultIn, AnswerFaultAfter, RefusesExactly}
-use Rattle.message.proofs.Laws.Faults.{Between, unless-between, Further, no-mean, same-refusal, number-is, at-is, before-wrong}
+use Rattle.message.proofs.Laws.Faults.{Between, unless-between, Further, further-here, further-on, further-at, no-mean, same-refusal, number-is, at-is, before-wrong}
 use Rattle.message.proofs.Laws.Round.{none-before}
 use Rattle.message.proofs.Laws.Answers.{stops-clear, Fair, fair}
 use Rattle.message.proofs.Laws.Judged.{answered-back, itemOf, item-long, item-fits, item-is, other-byte}
@@ -51,13 +51,8 @@ unfolding answersFrom lookOn seenOf answerFaultIn openAnswers AllOk Below
 after-judge byte0 at [] ws r s e m = absurd (false≢true (sym s))
 after-judge byte0 at (c ∷ cs) [] r s e m =
     rw (← same-refusal m)
-    (record {
-      least = omega arith;
-      most = omega arith;
-      on = 0;
-      after = record { done = []; next = c; behind = cs; asked = refl; good = []; fit = tt; tail = []; is = refl; fault = refl; place = refl };
-      place = add-zero at;
-    })
+    (further-here 35 at (omega arith) (omega arith)
+    (record { done = []; next = c; behind = cs; asked = refl; good = []; fit = tt; tail = []; is = refl; fault = refl; place = refl }))
 after-judge byte0 at (c ∷ cs) (h ∷ rest) r s e m =
     go (λ n x y. after-judge byte0 (at + 1 + n) cs (drop n rest) r x (below-drop _ n rest (e .1)) y) (eqb fault 0) refl m
   where
@@ -68,42 +63,30 @@ after-judge byte0 at (c ∷ cs) (h ∷ rest) r s e m =
     here z q =
         let w = fault-judges byte0 (c .count) (none cs) h (length rest) (eqb-false _ _ z) in
         rw (← q)
-        (record {
-          least = w .0;
-          most = w .1;
-          on = 0;
-          after = record { done = []; next = c; behind = cs; asked = refl; good = []; fit = tt; tail = h ∷ rest; is = refl; fault = refl; place = refl };
-          place = add-zero at;
-        })
+        (further-here fault at (w .0) (w .1)
+        (record { done = []; next = c; behind = cs; asked = refl; good = []; fit = tt; tail = h ∷ rest; is = refl; fault = refl; place = refl }))
 
-    behind : (f : Fair byte0 (c .count) (none cs) h (length rest)) → lastOf h ≡ false → Fault byte0 (at + 1 + countOf h) r cs (drop (countOf h) rest)
-        → Fault byte0 at r (c ∷ cs) (h ∷ rest)
-    behind f l g =
-        let a = g .after in
+    behind : (f : Fair byte0 (c .count) (none cs) h (length rest)) → lastOf h ≡ false → (n on : ℕ) → AnswerFaultAfter byte0 n on cs (drop (countOf h) rest)
+        → AnswerFaultAfter byte0 n (1 + countOf h + on) (c ∷ cs) (h ∷ rest)
+    behind f l n on a =
         let item = itemOf byte0 h rest in
         let byte = answerByte byte0 in
         let ok = stops-clear (statusNo (byte1Of h)) (none cs) (sym (f .stopped) ∙ l) .0 in
         let is : h ∷ rest ≡ (answeredWords byte false item ++ openAnswers byte (a .good)) ++ a .tail =
         sym (item-is byte0 c cs h rest f (e .0) (e .1)) ∙ rw (l, a .is) (sym (append-assoc (answeredWords byte false item) (openAnswers byte (a .good)) (a .tail))) in
-        let long : length (answeredWords byte false item ++ openAnswers byte (a .good)) ≡ 1 + countOf h + g .on =
+        let long : length (answeredWords byte false item ++ openAnswers byte (a .good)) ≡ 1 + countOf h + on =
         length-append (answeredWords byte false item) (openAnswers byte (a .good)) ∙ omega (arith, answered-long byte false item, item-long byte0 c cs h rest f (e .0) (e .1), a .place) in
         record {
-          least = g .least;
-          most = g .most;
-          on = 1 + countOf h + g .on;
-          after = record {
-            done = c ∷ a .done;
-            next = a .next;
-            behind = a .behind;
-            asked = ap (λ (xs : List Command). c ∷ xs) (a .asked);
-            good = item ∷ a .good;
-            fit = (ok, item-fits byte0 c cs h rest f (e .0) (e .1), a .fit);
-            tail = a .tail;
-            is = is;
-            fault = a .fault;
-            place = long;
-          };
-          place = omega (arith, g .place);
+          done = c ∷ a .done;
+          next = a .next;
+          behind = a .behind;
+          asked = ap (λ (xs : List Command). c ∷ xs) (a .asked);
+          good = item ∷ a .good;
+          fit = (ok, item-fits byte0 c cs h rest f (e .0) (e .1), a .fit);
+          tail = a .tail;
+          is = is;
+          fault = a .fault;
+          place = long;
         }
 
     by : Fair byte0 (c .count) (none cs) h (length rest)
@@ -114,7 +97,7 @@ after-judge byte0 at (c ∷ cs) (h ∷ rest) r s e m =
     by f ih true l x = no-mean (sym x)
     by f ih false l x =
         let more = stops-clear (statusNo (byte1Of h)) (none cs) (sym (f .stopped) ∙ l) .1 in
-        behind f l (ih (countOf h) more (before-wrong (itemOf byte0 h rest) _ x))
+        further-on at (1 + countOf h) (at + 1 + countOf h) (omega arith) (behind f l) (ih (countOf h) more (before-wrong (itemOf byte0 h rest) _ x))
 
     go : ((n : ℕ) → none cs ≡ false → answersFrom byte0 (at + 1 + n) cs (drop n rest) ≡ Wrong r → Fault byte0 (at + 1 + n) r cs (drop n rest))
         → (b : Bool) → eqb fault 0 ≡ b
@@ -204,7 +187,7 @@ module _ (r : Request) (dg : List ℕ) (fits : Fits r) (hb : Bytes dg) where
       go : Why r dg (refusedAt n at) → Faulty n at
       go (long l e) = absurd (omega (arith, number-is e))
       go (other l y e) = absurd (omega (arith, number-is e))
-      go (fault l y f) = let place : f .on ≡ at = omega (arith, f .place) in (l, y, rw place at (f .after))
+      go (fault l y f) = (l, y, further-at n at f)
 
   faults-given : (n at : ℕ) → 34 ≤ n → Faulty n at → judge r dg ≡ Wrong (refusedAt n at)
   unfolding judge
