@@ -35,9 +35,9 @@ extern "C" {
 /* Limits. */
 
 /* the most words of a message or an answer; the least length of the stored answer */
-#define CHARKHAVO_WORDS 368
+#define CHARKHAVO_WORDS 2243
 /* the same in bytes: the most of a datagram, the least length of an output */
-#define CHARKHAVO_BYTES 1472
+#define CHARKHAVO_BYTES (4 * CHARKHAVO_WORDS)
 /* the most words of memory; the least is 1 */
 #define CHARKHAVO_MEMORY_WORDS 16384
 
@@ -63,9 +63,9 @@ extern "C" {
 /* Turned away by the controller; of a request 2 to 10. */
 
 /* memory, stored answer or output has a forbidden length, or the record is not fresh and not
-   (tag 0 to 15, length 1 to 368) */
+   (tag 0 to 15, length 1 to CHARKHAVO_WORDS) */
 #define CHARKHAVO_REFUSED_LENT UINT32_C(1)
-/* 0 bytes, not a multiple of 4, or over 1,472 */
+/* 0 bytes, not a multiple of 4, or over CHARKHAVO_BYTES */
 #define CHARKHAVO_REFUSED_LENGTH UINT32_C(2)
 /* a header or body runs past the end */
 #define CHARKHAVO_REFUSED_PAST_END UINT32_C(3)
@@ -81,7 +81,7 @@ extern "C" {
 #define CHARKHAVO_REFUSED_ENABLES UINT32_C(8)
 /* words follow the LAST command */
 #define CHARKHAVO_REFUSED_AFTER_LAST UINT32_C(9)
-/* the answer with all commands OK would pass 368 words */
+/* the answer with all commands OK would pass CHARKHAVO_WORDS words */
 #define CHARKHAVO_REFUSED_LONG_ANSWER UINT32_C(10)
 /* out of step (discovery clear) */
 #define CHARKHAVO_REFUSED_OUT_OF_STEP UINT32_C(11)
@@ -98,7 +98,7 @@ extern "C" {
 #define CHARKHAVO_REFUSED_ADDED_ENABLES UINT32_C(24)
 /* address of 2^32 or more in 32-bit mode */
 #define CHARKHAVO_REFUSED_ADDED_ADDRESS UINT32_C(25)
-/* request or all-OK answer would pass 368 words */
+/* request or all-OK answer would pass CHARKHAVO_WORDS words */
 #define CHARKHAVO_REFUSED_NO_ROOM UINT32_C(26)
 
 /* The sender. */
@@ -108,7 +108,7 @@ extern "C" {
 /* request would be refused 2 to 10, has the discovery bit, or its tag is not the next tag (that of
    the waiting message while one waits) */
 #define CHARKHAVO_REFUSED_REQUEST UINT32_C(31)
-/* answer length 0, not a multiple of 4, or over 1,472 */
+/* answer length 0, not a multiple of 4, or over CHARKHAVO_BYTES */
 #define CHARKHAVO_REFUSED_ANSWER_LENGTH UINT32_C(32)
 /* byte 0 is not the request's with kind 3 */
 #define CHARKHAVO_REFUSED_ANSWER_BYTE_0 UINT32_C(33)
@@ -142,7 +142,7 @@ typedef struct CharkhavoRefusal {
 typedef struct CharkhavoTagRecord {
     bool fresh;
     uint32_t tag;  /* of the last new message, 0 to 15 */
-    size_t words;  /* of the stored answer, 1 to 368 */
+    size_t words;  /* of the stored answer, 1 to CHARKHAVO_WORDS */
 } CharkhavoTagRecord;
 
 /* What serving comes to: the first `sent` bytes of the output are to be sent, 0 with a refusal. */

@@ -117,11 +117,11 @@ struct Example {
     size_t answer_words;
 };
 
-/* The specification's words. Its completer advertises 8 bytes; ours 1,472 (000005C0), for document
-   01 decides there. */
+/* The specification's words. Its completer advertises 8 bytes; ours 8,972 (0000230C), for document
+   01 and request [6] decide there. */
 static const struct Example examples[3] = {
     {"NOP", CHARKHAVO_NOP, {0, 0, 0, 0}, {4}, 1,
-     {0x80010080, 0x00000004, 0}, 2, {0x800100B0, 0x000005C0}, 2},
+     {0x80010080, 0x00000004, 0}, 2, {0x800100B0, 0x0000230C}, 2},
     {"read", CHARKHAVO_READ, {0x10, 0, 0, 1}, {0}, 0,
      {0x800100A0, 0x00000010, 0}, 2, {0x800100B0, 0xF00DFACE}, 2},
     {"write", CHARKHAVO_WRITE, {0x4, 0xF, 0, 0}, {0xFEEDC0DE}, 1,
@@ -195,8 +195,8 @@ static CharkhavoSender as_sent(struct Controller *end, CharkhavoSender sender,
 
 /* The sender that the controller's answer to the fixed discovery makes. */
 static CharkhavoSender discover(struct Controller *end) {
-    static const uint32_t request[3] = {0x80020080, 0x000005C0, 0};
-    static const uint32_t answer[3] = {0x800200B0, 0x000005C0, 0};
+    static const uint32_t request[3] = {0x80020080, 0x0000230C, 0};
+    static const uint32_t answer[3] = {0x800200B0, 0x0000230C, 0};
     CharkhavoDiscovery discovery = charkhavo_discovery();
     printf("the fixed discovery\n");
     show("sent", discovery.bytes, sizeof discovery.bytes, request, 3);
@@ -260,6 +260,19 @@ static void nothing_to_serve(struct Controller *end) {
     expect_number(sent.refusal, CHARKHAVO_REFUSED_LENGTH, "no datagram");
 }
 
+/* The limit of the header is that of both libraries: what is one short of it is refused. */
+static void one_short(struct Controller *end) {
+    const size_t words = CHARKHAVO_WORDS, bytes = CHARKHAVO_BYTES;
+    CharkhavoSent sent = charkhavo_serve(end->memory, 8, end->stored, words - 1, end->output,
+                                         bytes, &end->tags, nop, 4);
+    expect_number(sent.refusal, CHARKHAVO_REFUSED_LENT, "a stored answer one word short");
+    sent = charkhavo_serve(end->memory, 8, end->stored, words, end->output, bytes - 1, &end->tags,
+                           nop, 4);
+    expect_number(sent.refusal, CHARKHAVO_REFUSED_LENT, "an output one byte short");
+    CharkhavoBuilt built = charkhavo_begin(end->output, bytes - 1, CHARKHAVO_NOP, 0, false, false);
+    expect_number(built.refusal, CHARKHAVO_REFUSED_BUILDING, "beginning one byte short");
+}
+
 /* Building with NULL, of length 0, for outputs and payloads. */
 static void nothing_to_build(void) {
     uint8_t output[CHARKHAVO_BYTES];
@@ -315,6 +328,7 @@ int main(void) {
     expect(end.tags.tag == 2 && sender.next == 3 && !sender.waits, "the records at the end");
     later_headers(&end);
     nothing_to_serve(&end);
+    one_short(&end);
     nothing_to_build();
     nothing_to_send();
     printf(differences == 0 ? "all as specified\n" : "DIFFERENCES\n");

@@ -88,7 +88,12 @@ pub const TABLE: [(u32, &str); 26] = [
 /// The sentence for a number, with the limit in figures; none for a number that is no refusal.
 pub fn sentence(number: u32) -> Option<String> {
     let (_, words) = TABLE.iter().find(|(given, _)| *given == number)?;
-    Some(words.replace("{words}", &figures(WORDS)).replace("{bytes}", &figures(BYTES)))
+    Some(limited(words, &figures(WORDS), &figures(BYTES)))
+}
+
+/// A sentence of the table with the limit named in words and in bytes.
+pub fn limited(sentence: &str, words: &str, bytes: &str) -> String {
+    sentence.replace("{words}", words).replace("{bytes}", bytes)
 }
 
 /// A number as document 01 writes it: thousands set apart by a comma.

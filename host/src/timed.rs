@@ -11,6 +11,8 @@ use std::time::Instant;
 /// A controller as the harness calls it.
 pub trait Controller {
     const NAME: &'static str;
+    /// An earlier one may do another thing, as under another limit, and is not timed where it does.
+    const EARLIER: bool = false;
     type Record;
 
     fn fresh() -> Self::Record;
@@ -31,6 +33,7 @@ pub struct Proved<const EARLIER: bool>;
 
 impl<const EARLIER: bool> Controller for Proved<EARLIER> {
     const NAME: &'static str = if EARLIER { "before" } else { "proved" };
+    const EARLIER: bool = EARLIER;
     type Record = ffi::TagRecord;
 
     fn fresh() -> ffi::TagRecord {
@@ -89,22 +92,36 @@ pub struct Case {
 /// Words of memory that the timed controllers serve.
 const MEMORY: usize = 1024;
 
-/// All cases of the measurement.
+/// Words of a datagram in an ordinary frame, of 1,500 bytes.
+const ORDINARY: usize = 368;
+
+/// All cases of the measurement: short messages, then those that fill an ordinary frame, then
+/// those of the limit.
 pub fn cases() -> Vec<Case> {
-    let many = WORDS / 3;
-    let reads = format!("read of {} words", WORDS - 1);
-    let mut repeat = tags(&format!("repeat of a {reads}"), |tag| read(tag, WORDS - 1));
-    repeat.datagrams.truncate(1);
-    vec![
+    let mut cases = vec![
         tags("write of 1 word", |tag| writes(tag, 1, 1, || 0x0F)),
-        tags(&format!("{many} writes of 1 word"), |tag| writes(tag, many, 1, || 0x0F)),
-        tags(&format!("{} writes of 2 words", WORDS / 4), |tag| writes(tag, WORDS / 4, 2, || 0xFF)),
-        tags(&format!("write of {} words", WORDS - 2), |tag| writes(tag, 1, WORDS - 2, || 0xFF)),
         tags("read of 1 word", |tag| read(tag, 1)),
-        tags(&reads, |tag| read(tag, WORDS - 1)),
-        repeat,
         tags("write of 1 word, 2 bytes enabled", |tag| writes(tag, 1, 1, || 0x06)),
         tags("write of 2 words, 3 bytes enabled", |tag| writes(tag, 1, 2, || 0x1C)),
+        tags("discovery (a NOP of 2 words)", |_| plain::sender::DISCOVERY.to_vec()),
+    ];
+    cases.extend(filling(ORDINARY));
+    cases.extend(filling(WORDS));
+    cases
+}
+
+/// Messages of so many words, or whose answer has so many, or a few less.
+fn filling(words: usize) -> Vec<Case> {
+    let (many, pairs) = (words / 3, words / 4);
+    let reads = format!("read of {} words", words - 1);
+    let mut repeat = tags(&format!("repeat of a {reads}"), |tag| read(tag, words - 1));
+    repeat.datagrams.truncate(1);
+    vec![
+        tags(&format!("{many} writes of 1 word"), |tag| writes(tag, many, 1, || 0x0F)),
+        tags(&format!("{pairs} writes of 2 words"), |tag| writes(tag, pairs, 2, || 0xFF)),
+        tags(&format!("write of {} words", words - 2), |tag| writes(tag, 1, words - 2, || 0xFF)),
+        tags(&reads, |tag| read(tag, words - 1)),
+        repeat,
         tags(&format!("{many} writes of 1 word, 2 bytes enabled"), |tag| {
             writes(tag, many, 1, || 0x06)
         }),
@@ -112,7 +129,6 @@ pub fn cases() -> Vec<Case> {
             let mut random = Random::new(tag.into());
             writes(tag, many, 1, || random.pick(&[0x0F, 0x06]))
         }),
-        tags("discovery (a NOP of 2 words)", |_| plain::sender::DISCOVERY.to_vec()),
     ]
 }
 
@@ -138,6 +154,9 @@ fn read(tag: u32, count: usize) -> Vec<u8> {
     bytes_of(&[Header::new(tag | 2 << 4, 0, count).0 | Header::LAST, 4 * tag])
 }
 
+/// Memory, stored answer and output.
+type Contents = (Vec<u32>, Vec<u32>, Vec<u8>);
+
 /// The buffers, one set for both controllers.
 struct Buffers {
     memory: Vec<u32>,
@@ -160,7 +179,7 @@ impl Buffers {
     }
 
     /// What a round has left behind, for comparison.
-    fn contents(&self) -> (Vec<u32>, Vec<u32>, Vec<u8>) {
+    fn contents(&self) -> Contents {
         (self.memory.clone(), self.stored.clone(), self.output.clone())
     }
 }
@@ -171,12 +190,13 @@ type Round = fn(&Case, &mut Buffers, usize) -> f64;
 /// A controller to be timed.
 pub struct Timed {
     pub name: &'static str,
+    timed: fn(&Case, &mut Buffers) -> bool,
     round: Round,
 }
 
 impl Timed {
     fn new<C: Controller>() -> Timed {
-        Timed { name: C::NAME, round: round::<C> }
+        Timed { name: C::NAME, timed: timed::<C>, round: round::<C> }
     }
 }
 
@@ -190,15 +210,25 @@ pub fn controllers() -> Vec<Timed> {
     ]
 }
 
-/// Times controllers beside each other, each going first in its turn; gives their medians.
-pub fn compare(case: &Case, controllers: &[Timed], rounds: usize, messages: usize) -> Vec<f64> {
+/// Times controllers beside each other, each going first in its turn; gives their medians, none
+/// for an earlier one that does another thing.
+pub fn compare(
+    case: &Case,
+    controllers: &[Timed],
+    rounds: usize,
+    messages: usize,
+) -> Vec<Option<f64>> {
     let mut buffers = Buffers::new();
     let mut times = vec![Vec::new(); controllers.len()];
+    let timed: Vec<bool> = controllers.iter().map(|c| (c.timed)(case, &mut buffers)).collect();
     for number in 0..rounds {
         let compared = number % controllers.len() == 0;
         let mut left = None;
         for turn in 0..controllers.len() {
             let which = (number + turn) % controllers.len();
+            if !timed[which] {
+                continue;
+            }
             times[which].push((controllers[which].round)(case, &mut buffers, messages));
             if compared {
                 let contents = buffers.contents();
@@ -208,6 +238,17 @@ pub fn compare(case: &Case, controllers: &[Timed], rounds: usize, messages: usiz
         }
     }
     times.into_iter().map(median).collect()
+}
+
+/// Whether a case is timed: always, but for an earlier controller that does another thing.
+fn timed<C: Controller>(case: &Case, buffers: &mut Buffers) -> bool {
+    !C::EARLIER || left::<C>(case, buffers) == left::<Proved<false>>(case, buffers)
+}
+
+/// What one pass comes to: 0 if nothing was refused, and the contents it leaves.
+fn left<C: Controller>(case: &Case, buffers: &mut Buffers) -> (u32, Contents) {
+    buffers.refill();
+    (play::<C>(case, buffers, &mut C::fresh(), 1), buffers.contents())
 }
 
 /// One round; gives nanoseconds a message.
@@ -244,7 +285,7 @@ fn play<C: Controller>(
     refused
 }
 
-fn median(mut times: Vec<f64>) -> f64 {
+fn median(mut times: Vec<f64>) -> Option<f64> {
     times.sort_by(f64::total_cmp);
-    times[times.len() / 2]
+    times.get(times.len() / 2).copied()
 }

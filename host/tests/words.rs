@@ -1,7 +1,7 @@
 //! The refusals in words: document 01's, in Rust and in the C header alike.
 
 use charkhavo_host::limits::WORDS;
-use charkhavo_host::refusal::{sentence, TABLE};
+use charkhavo_host::refusal::{limited, sentence, TABLE};
 use charkhavo_host::Refusal;
 use std::fs;
 
@@ -17,24 +17,23 @@ fn each_number_of_document_01_has_a_sentence_and_no_other() {
 
 #[test]
 fn the_limit_is_told_in_figures() {
-    if WORDS == 368 {
-        let words = sentence(2).unwrap();
-        assert_eq!(words, "0 bytes, not a multiple of 4, or over 1,472");
-        let words = Refusal::LONG_ANSWER.to_string();
-        assert_eq!(words, "refused 10 at 0: the answer with all commands OK would pass 368 words");
-        let words = Refusal::BYTE_0.at_word(12).to_string();
-        assert_eq!(words, "refused 4 at 12: byte 0 differs from the first header's");
-    }
+    let words = sentence(2).unwrap();
+    assert_eq!(words, "0 bytes, not a multiple of 4, or over 8,972");
+    let words = Refusal::LONG_ANSWER.to_string();
+    assert_eq!(words, "refused 10 at 0: the answer with all commands OK would pass 2,243 words");
+    let words = Refusal::BYTE_0.at_word(12).to_string();
+    assert_eq!(words, "refused 4 at 12: byte 0 differs from the first header's");
     assert!(TABLE.iter().all(|(number, _)| !sentence(*number).unwrap().contains('{')));
 }
 
 #[test]
-fn the_header_has_each_number_and_its_sentence() {
+fn the_header_has_the_limit_and_each_number_and_its_sentence() {
     let header = concat!(env!("CARGO_MANIFEST_DIR"), "/../include/charkhavo.h");
     let header = fs::read_to_string(header).expect("the header");
     let header = header.split_whitespace().collect::<Vec<&str>>().join(" ");
-    for (number, _) in TABLE {
-        let words = sentence(number).unwrap();
+    assert!(header.contains(&format!("#define CHARKHAVO_WORDS {WORDS} ")));
+    for (number, words) in TABLE {
+        let words = limited(words, "CHARKHAVO_WORDS", "CHARKHAVO_BYTES");
         let said = format!("/* {words} */ #define CHARKHAVO_REFUSED_");
         let (_, after) = header.split_once(&said).expect(&said);
         let value = after.split(' ').nth(1);

@@ -265,7 +265,7 @@ fn lengths(stored: &mut [u32; message::LIMIT], output: &mut [u8; message::LIMIT_
         stored,
         output,
         fresh,
-        &[0x816F_0020, 0],
+        &[0x88C2_0020, 0],
     );
     line(
         b"  one word longer",
@@ -273,7 +273,7 @@ fn lengths(stored: &mut [u32; message::LIMIT], output: &mut [u8; message::LIMIT_
         stored,
         output,
         fresh,
-        &[0x8170_0020, 0],
+        &[0x88C3_0020, 0],
     );
 }
 

@@ -12,7 +12,7 @@ use Rattle.message.specs.Request.{Command, Request}
 use Rattle.message.specs.Answer.{Answered, answerByte, answerWords}
 use Rattle.completer.specs.Moves.{fails, movesOf, afterMoves}
 
--- "Advertisement word 0 is 1,472; word 1 is the stored tag at entry plus 16, or 0 where none is stored": `mark` is word 1
+-- "Advertisement word 0 is" the limit in bytes; "word 1 is the stored tag at entry plus 16, or 0 where none is stored": `mark` is word 1
 abbrev pub advertisement : ℕ → List ℕ
 advertisement mark = limitBytes ∷ mark ∷ []
 

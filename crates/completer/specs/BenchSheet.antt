@@ -79,7 +79,7 @@ memoryWith u v = u ∷ v ∷ 0 ∷ 0 ∷ 0xF00DFACE ∷ 0 ∷ 0 ∷ 0 ∷ []
 -- the marked lines, in order
 unfoldable pub benchSheet : List Line
 benchSheet =
-    line freshRecord ((0x80010080 ∷ 0x00000004 ∷ []) ∷ []) 0 (0x800100B0 ∷ 0x000005C0 ∷ []) benchMemory freshRecord
+    line freshRecord ((0x80010080 ∷ 0x00000004 ∷ []) ∷ []) 0 (0x800100B0 ∷ 0x0000230C ∷ []) benchMemory freshRecord
     ∷ line freshRecord ((0x800100A0 ∷ 0x00000010 ∷ []) ∷ []) 0 (0x800100B0 ∷ 0xF00DFACE ∷ []) benchMemory freshRecord
     ∷ line freshRecord ((0x80010F90 ∷ 0x00000004 ∷ 0xFEEDC0DE ∷ []) ∷ []) 0 (0x800000B0 ∷ []) (memoryWith 0 0xFEEDC0DE) freshRecord
     ∷ line freshRecord (writeFeed ∷ []) 0 (0x80000030 ∷ []) (memoryWith 0 0xFEEDC0DE) (holding 0 1)

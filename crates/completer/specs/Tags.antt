@@ -33,7 +33,7 @@ mostMemory = 16384
 unfoldable pub lentOk : ℕ → ℕ → Bool
 lentOk memory output = cond (ltb memory 1) false (cond (ltb mostMemory memory) false (leb limitBytes output))
 
--- 1, record and stored answer: "stored answer .. has a forbidden length, or the record is not fresh and not (tag 0 to 15, length 1 to 368)"
+-- 1, record and stored answer: "stored answer .. has a forbidden length, or the record is not fresh and not (tag 0 to 15, length 1 to" the limit)
 unfoldable pub heldOk : ℕ → ℕ → Bool
 heldOk tag words = cond (leb 16 tag) false (cond (ltb words 1) false (leb words limit))
 

@@ -51,7 +51,7 @@ night =
     -- the second send comes, and its answer
     send 0 ∷ arrive 3 output ∷ back 4 ∷ []
 
--- what the controller gave at each arrival, the words of it: 80000030 to the write, each time; 800200B0, 1,472 and 10 to the
+-- what the controller gave at each arrival, the words of it: 80000030 to the write, each time; 800200B0, the limit and 10 to the
 -- discovery; 80020031 and both words to the reading
 abbrev pub Given : Type 0
 Given =

@@ -31,7 +31,7 @@ pub record Finds (datagram : List ℕ) : Type 0 where
   pub bytes : Bytes datagram
   pub only : findsOnly (read datagram)
 
--- "an output of at least 1,472 bytes"
+-- "an output of at least" the limit
 abbrev pub Lendable : List ℕ → Type 0
 Lendable output = limitBytes ≤ length output
 
@@ -47,7 +47,7 @@ terms =
       Lendable = Lendable;
     }
 
--- An allowed controller: "Memory is a lent run of 1 to 16,384 32-bit words", "a stored answer of at least 368 words", and an allowed
+-- An allowed controller: "Memory is a lent run of 1 to 16,384 32-bit words", "a stored answer of at least" the limit, and an allowed
 -- record.
 pub record Sound (c : Controller) : Type 0 where
   pub words : Words (c .memory)

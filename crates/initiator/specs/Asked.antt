@@ -81,7 +81,7 @@ sizeBy byte0 count = 1 + bodyWords byte0 count
 unfoldable pub replyBy : ℕ → ℕ → ℕ
 replyBy byte0 count = 1 + replyWords (kindOf byte0) count
 
--- not "26 request or all-OK answer would pass 368 words"
+-- not "26 request or all-OK answer would pass" the limit
 unfoldable pub roomFits : ℕ → ℕ → ℕ → ℕ → Bool
 roomFits byte0 words answer count = leb (words + sizeBy byte0 count) limit && leb (answer + replyBy byte0 count) limit
 

@@ -8,6 +8,6 @@ use Rattle.message.specs.Limits.{limitBytes}
 abbrev pub discoveryData : List ℕ
 discoveryData = limitBytes ∷ 0 ∷ []
 
--- "the fixed discovery 80020080 000005C0 00000000"
+-- "the fixed discovery 80020080", then its data; `LimitShown` of Examples has it in numbers
 unfoldable pub discoveryBytes : List ℕ
 discoveryBytes = bytesOf (0x80020080 ∷ discoveryData)

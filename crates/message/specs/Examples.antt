@@ -9,8 +9,9 @@ use Rattle.message.specs.declared.header.Kind.the-variants.{Write}
 use Rattle.message.specs.declared.refusal.Refusal.{Refusal}
 use Rattle.message.specs.Header.{bit}
 use Rattle.message.specs.Walk.{refusedAt, refusal, enablesOk}
-use Rattle.message.specs.Request.{Request, Reading, Wrong, Means, refusalIn, read}
+use Rattle.message.specs.Request.{Request, Reading, Wrong, Means, refusalIn, lengthOk, read}
 use Rattle.message.specs.Answer.{Answered, judge}
+use Rattle.message.specs.Discovery.{discoveryBytes}
 
 -- two refusals of the same number and the same index
 abbrev pub sameRefusal : Refusal → Refusal → Bool
@@ -105,10 +106,10 @@ requests =
     ∷ words (0x8002F710 ∷ 0x0000000C ∷ 0x11111111 ∷ 0x22222222 ∷ []) 8
     ∷ words (0x8002EF10 ∷ 0x0000000C ∷ 0x11111111 ∷ 0x22222222 ∷ []) 8
     -- a read whose answer just fits, and one that is one too long; two reads that are one too long together
-    ∷ words (0x816F0020 ∷ 0x00000000 ∷ []) 0
-    ∷ words (0x81700020 ∷ 0x00000000 ∷ []) 10
-    ∷ words (0x00B70020 ∷ 0x00000000 ∷ 0x80B70020 ∷ 0x00000000 ∷ []) 0
-    ∷ words (0x00B70020 ∷ 0x00000000 ∷ 0x80B80020 ∷ 0x00000000 ∷ []) 10
+    ∷ words (0x88C20020 ∷ 0x00000000 ∷ []) 0
+    ∷ words (0x88C30020 ∷ 0x00000000 ∷ []) 10
+    ∷ words (0x04600020 ∷ 0x00000000 ∷ 0x84610020 ∷ 0x00000000 ∷ []) 0
+    ∷ words (0x04610020 ∷ 0x00000000 ∷ 0x84610020 ∷ 0x00000000 ∷ []) 10
     -- two faults in one header: the lower place in the order decides
     ∷ words (0xF0000030 ∷ []) 5
     ∷ words (0xF0000F10 ∷ []) 6
@@ -138,6 +139,10 @@ patterns (suc n) count address = bit (enablesOk Write count address n) + pattern
 -- of all 256: any first field; any two but 0; and, at 12 or with more words, the four of the one list with the four of the other
 abbrev pub PatternsCounted : Type 0
 PatternsCounted = (patterns 256 1 12 ≡ 16) × (patterns 256 2 8 ≡ 225) × (patterns 256 2 12 ≡ 16) × (patterns 256 3 8 ≡ 16)
+
+-- [6] "8,972 bytes": so many are let by, a word more is not; and "the fixed discovery 80020080 0000230C 00000000"
+abbrev pub LimitShown : Type 0
+LimitShown = (lengthOk 8972 ≡ true) × (lengthOk 8976 ≡ false) × (discoveryBytes ≡ bytesOf (0x80020080 ∷ 0x0000230C ∷ 0x00000000 ∷ []))
 
 -- an answer to a request, and the refusal that it gets: at word 0, or at a later one
 pub record AnswerExample : Type 0 where

@@ -10,6 +10,6 @@ pub mod request;
 pub mod walk;
 
 // The most words of a message, and the most bytes.
-pub const LIMIT: usize = 368;
+pub const LIMIT: usize = 2243;
 
 pub const LIMIT_BYTES: usize = 4 * LIMIT;

@@ -19,9 +19,13 @@ fn main() {
     println!();
     for case in cases() {
         let times = compare(&case, &controllers, rounds, messages);
-        print!("{:<40}{:>8.1}", case.name, times[0]);
+        let ours = times[0].expect("ours is timed");
+        print!("{:<40}{:>8.1}", case.name, ours);
         for other in &times[1..] {
-            print!("{:>10.1}{:>8.2}", other, times[0] / other);
+            match other {
+                Some(other) => print!("{:>10.1}{:>8.2}", other, ours / other),
+                None => print!("{:>10}{:>8}", "differs", ""),
+            }
         }
         println!();
     }

@@ -3,9 +3,9 @@
 use crate::common::seen::Seen;
 use crate::common::{Ends, Given};
 use crate::{Other, Ours, ROUNDS, SEED};
+use charkhavo_host::limits::BYTES;
 use charkhavo_host::random::controller::{lent, Lent};
 use charkhavo_host::random::Random;
-use charkhavo_host::Refusal;
 
 #[test]
 fn controller_calls() {
@@ -22,7 +22,7 @@ fn controller_calls() {
         let well_formed = Ours::refusal(&given.datagram);
         assert_eq!(well_formed, Other::refusal(&given.datagram), "round {round}: {given:?}");
         requests.note(well_formed.number);
-        met.note(refusal, &given, &ours);
+        met.note((refusal, sent), &given, &ours);
     }
     seen.exactly(0..=11);
     requests.exactly([0, 2, 3, 4, 5, 6, 7, 8, 9, 10]);
@@ -34,7 +34,8 @@ fn serve<E: Ends>(lent: &mut Lent) -> Given<usize> {
     E::serve(memory, stored, output, tags, datagram)
 }
 
-/// How often each way of being served came, memory was changed, and a later header refused.
+/// How often each way of being served came, memory was changed, a later header refused, and a
+/// request or a sent answer had the limit's length.
 #[derive(Default)]
 struct Met {
     new: usize,
@@ -42,10 +43,12 @@ struct Met {
     discoveries: usize,
     changes: usize,
     later: usize,
+    full_requests: usize,
+    full_answers: usize,
 }
 
 impl Met {
-    fn note(&mut self, refusal: Refusal, before: &Lent, after: &Lent) {
+    fn note(&mut self, (refusal, sent): Given<usize>, before: &Lent, after: &Lent) {
         if refusal.number != 0 {
             self.later += usize::from(refusal.at != 0);
             return;
@@ -58,11 +61,14 @@ impl Met {
             self.repeats += 1;
         }
         self.changes += usize::from(before.memory != after.memory);
+        self.full_requests += usize::from(before.datagram.len() == BYTES);
+        self.full_answers += usize::from(sent == BYTES);
     }
 
     fn all(&self) {
-        let Met { new, repeats, discoveries, changes, later } = *self;
-        let met = [new, repeats, discoveries, changes, later];
+        let Met { new, repeats, discoveries, changes, later, full_requests, full_answers } = *self;
+        let met = [new, repeats, discoveries, changes, later, full_requests, full_answers];
+        println!("{met:?}");
         assert!(met.iter().all(|times| *times > 100), "{met:?}");
     }
 }

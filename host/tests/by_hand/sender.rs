@@ -85,7 +85,7 @@ fn refusal_31() {
 #[test]
 fn refusal_31_at_a_later_header() {
     let faults: [&[u32]; 4] = [&[], &[0x8001_0026, 0], &[0x9001_0025, 0], &[0x8001_0025, 0, 0]];
-    for before in 1..=100 {
+    for before in 1..WORDS / 2 - 1 {
         for fault in faults {
             let words = [[0x0001_0025, 0].repeat(before).as_slice(), fault].concat();
             let (request, refusal) = (bytes_of(&words), at(31, 2 * before));
@@ -189,10 +189,7 @@ fn a_sender_from_a_discovery_answer() {
 #[test]
 fn the_fixed_discovery_and_its_answers() {
     let discovery = Ours::discovery();
-    assert_eq!(discovery.to_vec(), bytes_of(&[0x8002_0080, BYTES as u32, 0]));
-    if WORDS == 368 {
-        assert_eq!(discovery.to_vec(), bytes_of(&[0x8002_0080, 0x0000_05C0, 0]));
-    }
+    assert_eq!(discovery.to_vec(), bytes_of(&[0x8002_0080, 0x0000_230C, 0]));
     let mut fresh = Bench::sheet();
     let answer = fresh.give_bytes(&discovery).unwrap();
     assert_eq!(Ours::discovered(&bytes_of(&answer)), (of(0), Ours::fresh()));
