@@ -125,7 +125,11 @@ fn filling(words: usize) -> Vec<Case> {
         tags(&format!("{many} writes of 1 word, 2 bytes enabled"), |tag| {
             writes(tag, many, 1, || 0x06)
         }),
-        tags(&format!("{many} writes of 1 word, half of them so"), |tag| {
+        tags(&format!("{many} writes of 1 word, every second so"), |tag| {
+            let mut turns = [0x0F, 0x06].into_iter().cycle();
+            writes(tag, many, 1, || turns.next().unwrap())
+        }),
+        tags(&format!("{many} writes of 1 word, half so by chance"), |tag| {
             let mut random = Random::new(tag.into());
             writes(tag, many, 1, || random.pick(&[0x0F, 0x06]))
         }),
