@@ -4,9 +4,13 @@ use completer::serving;
 use completer::tags::TagRecord;
 
 mod print;
+mod refused;
+
+// (a) of the sheet.
+pub(crate) const FEED: [u32; 3] = [0x8001_0F10, 4, 0xFEED_C0DE];
 
 // A datagram of words, served; its line says what came of it. Hands the record on.
-fn serve(
+pub(crate) fn serve(
     label: &[u8],
     memory: &mut [u32; 8],
     stored: &mut [u32; message::LIMIT],
@@ -35,7 +39,7 @@ fn serve(
 }
 
 // The same of words.
-fn line(
+pub(crate) fn line(
     label: &[u8],
     memory: &mut [u32; 8],
     stored: &mut [u32; message::LIMIT],
@@ -53,7 +57,7 @@ fn line(
 }
 
 // "Memory of 8 zero words but word 4 = F00DFACE".
-fn bench() -> [u32; 8] {
+pub(crate) fn bench() -> [u32; 8] {
     [0, 0, 0, 0, 0xF00D_FACE, 0, 0, 0]
 }
 
@@ -90,9 +94,8 @@ fn discoveries(stored: &mut [u32; message::LIMIT], output: &mut [u8; message::LI
 // The lines (a) to (c), each on what it stands after.
 fn tagged(stored: &mut [u32; message::LIMIT], output: &mut [u8; message::LIMIT_BYTES]) {
     let fresh = TagRecord::fresh();
-    let feed = [0x8001_0F10, 4, 0xFEED_C0DE];
     let mut memory = bench();
-    let tags = line(b"* (a)", &mut memory, stored, output, fresh, &feed);
+    let tags = line(b"* (a)", &mut memory, stored, output, fresh, &FEED);
     let forced = line(
         b"  a discovery write of 0",
         &mut memory,
@@ -101,7 +104,7 @@ fn tagged(stored: &mut [u32; message::LIMIT], output: &mut [u8; message::LIMIT_B
         tags,
         &[0x8001_0F90, 4, 0],
     );
-    let again = line(b"* (b)", &mut memory, stored, output, forced, &feed);
+    let again = line(b"* (b)", &mut memory, stored, output, forced, &FEED);
     line(
         b"* (c)",
         &mut memory,
@@ -115,9 +118,8 @@ fn tagged(stored: &mut [u32; message::LIMIT], output: &mut [u8; message::LIMIT_B
 // (d), and a tag that wraps.
 fn out_of_step(stored: &mut [u32; message::LIMIT], output: &mut [u8; message::LIMIT_BYTES]) {
     let fresh = TagRecord::fresh();
-    let feed = [0x8001_0F10, 4, 0xFEED_C0DE];
     let mut memory = bench();
-    let tags = line(b"  (a)", &mut memory, stored, output, fresh, &feed);
+    let tags = line(b"  (a)", &mut memory, stored, output, fresh, &FEED);
     line(
         b"* (d)",
         &mut memory,
@@ -126,19 +128,23 @@ fn out_of_step(stored: &mut [u32; message::LIMIT], output: &mut [u8; message::LI
         tags,
         &[0x8001_0F12, 4, 0],
     );
-    let wrapped = TagRecord {
-        fresh: false,
-        tag: 15,
-        words: 1,
-    };
     line(
         b"* after tag 15, tag 0",
         &mut memory,
         stored,
         output,
-        wrapped,
-        &feed,
+        held(1),
+        &FEED,
     );
+}
+
+// A record of tag 15 and a stored answer of so many words.
+pub(crate) fn held(words: usize) -> TagRecord {
+    TagRecord {
+        fresh: false,
+        tag: 15,
+        words,
+    }
 }
 
 // Commands that fail.
@@ -193,90 +199,6 @@ fn gaps(stored: &mut [u32; message::LIMIT], output: &mut [u8; message::LIMIT_BYT
     );
 }
 
-// Four writes and a fifth of another tag: refused 4 at 12, and none of them is carried out.
-fn later(stored: &mut [u32; message::LIMIT], output: &mut [u8; message::LIMIT_BYTES]) {
-    let w = 0x0001_0F10;
-    let d = 0x1111_1111;
-    let mut memory = bench();
-    line(
-        b"* another tag in the fifth header",
-        &mut memory,
-        stored,
-        output,
-        TagRecord::fresh(),
-        &[
-            w,
-            0,
-            d,
-            w,
-            0,
-            d,
-            w,
-            0,
-            d,
-            w,
-            0,
-            d,
-            0x8001_0F11,
-            4,
-            0x2222_2222,
-        ],
-    );
-}
-
-// The lines that are run only.
-fn refusals(stored: &mut [u32; message::LIMIT], output: &mut [u8; message::LIMIT_BYTES]) {
-    let fresh = TagRecord::fresh();
-    let mut memory = bench();
-    serve(b"  no bytes", &mut memory, stored, output, fresh, &[0u8; 0]);
-    serve(
-        b"  3 bytes",
-        &mut memory,
-        stored,
-        output,
-        fresh,
-        &[0x10u8, 0x0F, 0x01],
-    );
-    line(
-        b"  count 0",
-        &mut memory,
-        stored,
-        output,
-        fresh,
-        &[0x8000_0F10, 4],
-    );
-    line(
-        b"  a reserved bit",
-        &mut memory,
-        stored,
-        output,
-        fresh,
-        &[0x9001_0F10, 4, 0],
-    );
-}
-
-// Reads whose answer just fits, and does not.
-fn lengths(stored: &mut [u32; message::LIMIT], output: &mut [u8; message::LIMIT_BYTES]) {
-    let fresh = TagRecord::fresh();
-    let mut memory = bench();
-    line(
-        b"  the longest read",
-        &mut memory,
-        stored,
-        output,
-        fresh,
-        &[0x88C2_0020, 0],
-    );
-    line(
-        b"  one word longer",
-        &mut memory,
-        stored,
-        output,
-        fresh,
-        &[0x88C3_0020, 0],
-    );
-}
-
 fn main() {
     let mut stored = [0u32; message::LIMIT];
     let mut output = [0u8; message::LIMIT_BYTES];
@@ -285,7 +207,8 @@ fn main() {
     out_of_step(&mut stored, &mut output);
     errors(&mut stored, &mut output);
     gaps(&mut stored, &mut output);
-    later(&mut stored, &mut output);
-    refusals(&mut stored, &mut output);
-    lengths(&mut stored, &mut output);
+    refused::later(&mut stored, &mut output);
+    refused::records(&mut stored, &mut output);
+    refused::refusals(&mut stored, &mut output);
+    refused::lengths(&mut stored, &mut output);
 }

@@ -97,6 +97,9 @@ benchSheet =
     ∷ line freshRecord (gapped 12 ∷ []) 8 [] benchMemory freshRecord
     -- [4] "refused 4 at 12": four writes stand before it, and none is carried out
     ∷ record { start = freshRecord; datagrams = fifthDiffers ∷ []; given = refusedAt 4 12; words = []; memory = benchMemory; tags = freshRecord }
+    -- [6] 1, "length 1 to" 2,243: a stored answer of so many words, and of one more
+    ∷ line (holding 15 2243) (writeFeed ∷ []) 0 (0x80000030 ∷ []) (memoryWith 0 0xFEEDC0DE) (holding 0 1)
+    ∷ line (holding 15 2244) (writeFeed ∷ []) 1 [] benchMemory (holding 15 2244)
     ∷ []
 
 -- every marked line holds

@@ -2,11 +2,14 @@
 -- proofs/Laws/Discovered.antt. Assumes nothing.
 use Prim.Native.Nat.{ℕ}
 use mathlib.Core.Path.{_≡_}
-use mathlib.Core.Bool.{true}
+use mathlib.Core.Bool.{Bool, true, false, _&&_}
 use mathlib.Core.List.{List, [], _∷_}
 use lib.ListN.{length, take}
 use Rattle.word.specs.Words.{bytesOf, putWords}
 use Rattle.message.specs.Limits.{limitBytes}
+use Rattle.message.specs.declared.refusal.Refusal.{Refusal}
+use Rattle.message.specs.Walk.{refusal}
+use Rattle.message.specs.Request.{Request, Wrong, Means, read}
 use Rattle.message.specs.Discovery.{discoveryBytes}
 use Rattle.completer.specs.declared.tags.TagRecord.{TagRecord}
 use Rattle.completer.specs.declared.serving.Verdict.the-variants.{New, Repeat, Discovery}
@@ -24,6 +27,19 @@ pub record Unchanged (m s o : List ℕ) (t : TagRecord) (a : After) : Type 0 whe
 
 abbrev pub RefusalKeeps : List ℕ → List ℕ → List ℕ → TagRecord → List ℕ → Type 0
 RefusalKeeps m s o t dg = (after m s o t dg .served .refusal .number ≡ 0 → ⊥) → Unchanged m s o t (after m s o t dg)
+
+-- whether all that is lent is allowed, and the refusal that the call gives
+abbrev pub allowed : List ℕ → List ℕ → List ℕ → TagRecord → Bool
+allowed m s o t = lentOk (length m) (length o) && keptOk (length s) t
+
+abbrev pub refusedBy : List ℕ → List ℕ → List ℕ → TagRecord → List ℕ → Refusal
+refusedBy m s o t dg = after m s o t dg .served .refusal
+
+-- "Checks 1 and 2 come first": 1, with index 0. Refusals 2 to 10 are `read`'s own, number and index. "All others .. give 0"
+pub record SaysWhere (m s o : List ℕ) (t : TagRecord) (dg : List ℕ) : Type 0 where
+  pub lent : allowed m s o t ≡ false → refusedBy m s o t dg ≡ refusal 1
+  pub walked : (r : Refusal) → allowed m s o t ≡ true → read dg ≡ Wrong r → refusedBy m s o t dg ≡ r
+  pub others : (r : Request) → read dg ≡ Means r → refusedBy m s o t dg .at ≡ 0
 
 -- "The next tag, modulo 16, is new: carry out, store tag and answer": what is stored is the answer, and the answer is sent
 pub record Stored (t : TagRecord) (answer : List ℕ) (a : After) : Type 0 where

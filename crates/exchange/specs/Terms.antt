@@ -31,7 +31,7 @@ pub record Finds (datagram : List ℕ) : Type 0 where
   pub bytes : Bytes datagram
   pub only : findsOnly (read datagram)
 
--- "an output of at least" the limit
+-- "an output of at least" the limit in bytes
 abbrev pub Lendable : List ℕ → Type 0
 Lendable output = limitBytes ≤ length output
 

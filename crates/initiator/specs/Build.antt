@@ -19,7 +19,7 @@ use Rattle.initiator.specs.Asked.{countBy, commandBy, sizeBy, replyBy, c
 abbrev pub gives : ℕ → Building → Built
 gives number b = record { refusal = refusal number; building = b }
 
--- "A message is built in a lent output of" the limit "or more"
+-- "A message is built in a lent output of" the limit in bytes "or more"
 abbrev pub longOk : ℕ → Bool
 longOk room = leb limitBytes room
 

@@ -93,7 +93,7 @@ unfoldable pub ended : ℕ → Reading (List Command) → Reading Request
 ended byte0 (Wrong r) = Wrong r
 ended byte0 (Means cs) = cond (leb (replies byte0 cs) limit) (Means (record { byte0 = byte0; commands = cs })) (Wrong (refusal 10))
 
--- not "0 bytes, not a multiple of 4, or over" the limit
+-- not "0 bytes, not a multiple of 4, or over" the limit in bytes
 unfoldable pub lengthOk : ℕ → Bool
 lengthOk n = cond (eqb n 0) false (cond (eqb (n % 4) 0) (leb n limitBytes) false)
 

@@ -57,7 +57,7 @@ kept-room stored tags e = go (ltb stored limit) refl e
     go false p q = (ltb-false stored limit p, q)
 
 -- a verdict other than refusal 1 is that of the datagram, and all that is lent is right
-abbrev one : Verdict
+abbrev pub one : Verdict
 one = Refused (refusal 1)
 
 not-one : (a b : Bool) (j v : Verdict) → cond a (cond b j one) one ≡ v → (v ≡ one → ⊥) → (a ≡ true) × (b ≡ true) × (j ≡ v)
