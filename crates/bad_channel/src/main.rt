@@ -1,14 +1,16 @@
 // A bad night between the two ends, on their real functions: each message is sent and lost, sent again, comes twice, and late once
 // more; a discovery comes in between, and its answer and old answers reach the sender. Eighteen messages, so that tags go past 15.
 // Prints what each call gave, and the memory at the end.
+use building::asked::Asked;
+use building::build;
 use completer::serving;
 use completer::serving::Served;
-use completer::tags::TagRecord;
-use initiator::asked::Asked;
-use initiator::build;
+use header::limits;
 use initiator::outcome;
 use initiator::sender;
 use initiator::sender::Sender;
+use message::discovery;
+use tags::record::TagRecord;
 
 mod print;
 
@@ -45,7 +47,7 @@ fn compose(out: &mut [u8], i: u32) -> usize {
     let added = build::add(out, begun.building, asked, &words);
     let closed = build::close(out, added.building);
     let b = closed.building;
-    if b.words > message::LIMIT {
+    if b.words > limits::LIMIT {
         return 0;
     }
     4 * b.words
@@ -102,8 +104,8 @@ fn offered(s: Sender, message: &[u8], i: u32) -> Sender {
 
 // A discovery comes, and its answer reaches the sender.
 fn discovered(memory: &mut [u32], stored: &mut [u32], ends: Ends, message: &[u8]) -> Ends {
-    let mut output = [0u8; message::LIMIT_BYTES];
-    let asks = initiator::discovery::bytes();
+    let mut output = [0u8; limits::LIMIT_BYTES];
+    let asks = discovery::bytes();
     let served = arrives(b"discovery", memory, stored, &mut output, ends.tags, &asks);
     let tags = served.tags;
     let s = back(
@@ -124,8 +126,8 @@ fn late(memory: &mut [u32], stored: &mut [u32], tags: TagRecord, i: u32, behind:
     if i < behind {
         return tags;
     }
-    let mut old = [0u8; message::LIMIT_BYTES];
-    let mut output = [0u8; message::LIMIT_BYTES];
+    let mut old = [0u8; limits::LIMIT_BYTES];
+    let mut output = [0u8; limits::LIMIT_BYTES];
     let n = compose(&mut old, i - behind);
     print::number(b"from ", behind as u64);
     let served = arrives(
@@ -219,7 +221,7 @@ fn part(
     ends: Ends,
     i: u32,
 ) -> Ends {
-    let mut lent = [0u8; message::LIMIT_BYTES];
+    let mut lent = [0u8; limits::LIMIT_BYTES];
     let n = compose(&mut lent, i);
     let message = print::front(&lent, n);
     let ends = evening(memory, stored, old, ends, message, i);
@@ -268,9 +270,9 @@ fn night(memory: &mut [u32], stored: &mut [u32], a: &mut [u8], b: &mut [u8]) -> 
 
 fn main() {
     let mut memory = [0u32; 8];
-    let mut stored = [0u32; message::LIMIT];
-    let mut a = [0u8; message::LIMIT_BYTES];
-    let mut b = [0u8; message::LIMIT_BYTES];
+    let mut stored = [0u32; limits::LIMIT];
+    let mut a = [0u8; limits::LIMIT_BYTES];
+    let mut b = [0u8; limits::LIMIT_BYTES];
     let ends = night(&mut memory, &mut stored, &mut a, &mut b);
     print::say(b"memory");
     print::show_memory(&memory);

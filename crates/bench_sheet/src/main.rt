@@ -1,7 +1,8 @@
 // Runs every line of the bench sheet on the real call, marked or not, and names what each gave: the refusal or the words sent, the
 // words of memory that a line speaks of, and the record.
 use completer::serving;
-use completer::tags::TagRecord;
+use header::limits;
+use tags::record::TagRecord;
 
 mod print;
 mod refused;
@@ -13,8 +14,8 @@ pub(crate) const FEED: [u32; 3] = [0x8001_0F10, 4, 0xFEED_C0DE];
 pub(crate) fn serve(
     label: &[u8],
     memory: &mut [u32; 8],
-    stored: &mut [u32; message::LIMIT],
-    output: &mut [u8; message::LIMIT_BYTES],
+    stored: &mut [u32; limits::LIMIT],
+    output: &mut [u8; limits::LIMIT_BYTES],
     tags: TagRecord,
     datagram: &[u8],
 ) -> TagRecord {
@@ -42,8 +43,8 @@ pub(crate) fn serve(
 pub(crate) fn line(
     label: &[u8],
     memory: &mut [u32; 8],
-    stored: &mut [u32; message::LIMIT],
-    output: &mut [u8; message::LIMIT_BYTES],
+    stored: &mut [u32; limits::LIMIT],
+    output: &mut [u8; limits::LIMIT_BYTES],
     tags: TagRecord,
     words: &[u32],
 ) -> TagRecord {
@@ -62,7 +63,7 @@ pub(crate) fn bench() -> [u32; 8] {
 }
 
 // Discoveries by the specification's own examples.
-fn discoveries(stored: &mut [u32; message::LIMIT], output: &mut [u8; message::LIMIT_BYTES]) {
+fn discoveries(stored: &mut [u32; limits::LIMIT], output: &mut [u8; limits::LIMIT_BYTES]) {
     let fresh = TagRecord::fresh();
     let mut memory = bench();
     line(
@@ -92,7 +93,7 @@ fn discoveries(stored: &mut [u32; message::LIMIT], output: &mut [u8; message::LI
 }
 
 // The lines (a) to (c), each on what it stands after.
-fn tagged(stored: &mut [u32; message::LIMIT], output: &mut [u8; message::LIMIT_BYTES]) {
+fn tagged(stored: &mut [u32; limits::LIMIT], output: &mut [u8; limits::LIMIT_BYTES]) {
     let fresh = TagRecord::fresh();
     let mut memory = bench();
     let tags = line(b"* (a)", &mut memory, stored, output, fresh, &FEED);
@@ -116,7 +117,7 @@ fn tagged(stored: &mut [u32; message::LIMIT], output: &mut [u8; message::LIMIT_B
 }
 
 // (d), and a tag that wraps.
-fn out_of_step(stored: &mut [u32; message::LIMIT], output: &mut [u8; message::LIMIT_BYTES]) {
+fn out_of_step(stored: &mut [u32; limits::LIMIT], output: &mut [u8; limits::LIMIT_BYTES]) {
     let fresh = TagRecord::fresh();
     let mut memory = bench();
     let tags = line(b"  (a)", &mut memory, stored, output, fresh, &FEED);
@@ -148,7 +149,7 @@ pub(crate) fn held(words: usize) -> TagRecord {
 }
 
 // Commands that fail.
-fn errors(stored: &mut [u32; message::LIMIT], output: &mut [u8; message::LIMIT_BYTES]) {
+fn errors(stored: &mut [u32; limits::LIMIT], output: &mut [u8; limits::LIMIT_BYTES]) {
     let fresh = TagRecord::fresh();
     let mut memory = bench();
     line(
@@ -178,7 +179,7 @@ fn errors(stored: &mut [u32; message::LIMIT], output: &mut [u8; message::LIMIT_B
 }
 
 // Writes of two words with gaps inside their enables: allowed at a multiple of 8 alone.
-fn gaps(stored: &mut [u32; message::LIMIT], output: &mut [u8; message::LIMIT_BYTES]) {
+fn gaps(stored: &mut [u32; limits::LIMIT], output: &mut [u8; limits::LIMIT_BYTES]) {
     let fresh = TagRecord::fresh();
     let mut memory = bench();
     line(
@@ -200,8 +201,8 @@ fn gaps(stored: &mut [u32; message::LIMIT], output: &mut [u8; message::LIMIT_BYT
 }
 
 fn main() {
-    let mut stored = [0u32; message::LIMIT];
-    let mut output = [0u8; message::LIMIT_BYTES];
+    let mut stored = [0u32; limits::LIMIT];
+    let mut output = [0u8; limits::LIMIT_BYTES];
     discoveries(&mut stored, &mut output);
     tagged(&mut stored, &mut output);
     out_of_step(&mut stored, &mut output);

@@ -1,6 +1,6 @@
 // What is printed: words and numbers, the words that were sent, and the record of tags.
-use completer::tags::TagRecord;
 use libc::STDOUT_FILENO;
+use tags::record::TagRecord;
 
 pub(crate) fn say(text: &[u8]) {
     io::write_all(STDOUT_FILENO, text);

@@ -4,10 +4,11 @@ use crate::bench;
 use crate::held;
 use crate::line;
 use crate::serve;
-use completer::tags::TagRecord;
+use header::limits;
+use tags::record::TagRecord;
 
 // Four writes and a fifth of another tag: refused 4 at 12, and none of them is carried out.
-pub(crate) fn later(stored: &mut [u32; message::LIMIT], output: &mut [u8; message::LIMIT_BYTES]) {
+pub(crate) fn later(stored: &mut [u32; limits::LIMIT], output: &mut [u8; limits::LIMIT_BYTES]) {
     let w = 0x0001_0F10;
     let d = 0x1111_1111;
     let mut memory = bench();
@@ -38,14 +39,14 @@ pub(crate) fn later(stored: &mut [u32; message::LIMIT], output: &mut [u8; messag
 }
 
 // A stored answer of the limit's words is allowed, and of one more not.
-pub(crate) fn records(stored: &mut [u32; message::LIMIT], output: &mut [u8; message::LIMIT_BYTES]) {
+pub(crate) fn records(stored: &mut [u32; limits::LIMIT], output: &mut [u8; limits::LIMIT_BYTES]) {
     let mut memory = bench();
     line(
         b"* a stored answer of the limit",
         &mut memory,
         stored,
         output,
-        held(message::LIMIT),
+        held(limits::LIMIT),
         &FEED,
     );
     let mut memory = bench();
@@ -54,16 +55,13 @@ pub(crate) fn records(stored: &mut [u32; message::LIMIT], output: &mut [u8; mess
         &mut memory,
         stored,
         output,
-        held(message::LIMIT + 1),
+        held(limits::LIMIT + 1),
         &FEED,
     );
 }
 
 // The lines that are run only.
-pub(crate) fn refusals(
-    stored: &mut [u32; message::LIMIT],
-    output: &mut [u8; message::LIMIT_BYTES],
-) {
+pub(crate) fn refusals(stored: &mut [u32; limits::LIMIT], output: &mut [u8; limits::LIMIT_BYTES]) {
     let fresh = TagRecord::fresh();
     let mut memory = bench();
     serve(b"  no bytes", &mut memory, stored, output, fresh, &[0u8; 0]);
@@ -94,7 +92,7 @@ pub(crate) fn refusals(
 }
 
 // Reads whose answer just fits, and does not.
-pub(crate) fn lengths(stored: &mut [u32; message::LIMIT], output: &mut [u8; message::LIMIT_BYTES]) {
+pub(crate) fn lengths(stored: &mut [u32; limits::LIMIT], output: &mut [u8; limits::LIMIT_BYTES]) {
     let fresh = TagRecord::fresh();
     let mut memory = bench();
     line(

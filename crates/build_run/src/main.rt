@@ -1,7 +1,9 @@
 // Builds a message of each kind and runs into every refusal 21 to 26, on the real functions, and prints what each call gave:
 // its refusal, 0 for none, then the record, and the words of what was closed.
-use initiator::asked::Asked;
-use initiator::build;
+use building::asked::Asked;
+use building::build;
+use header::limits;
+use message::discovery;
 
 mod print;
 mod refused;
@@ -53,7 +55,7 @@ pub(crate) fn write_at(address: u64, first: u32, last: u32) -> Asked {
 
 // A message of two commands from begin to close, and its words.
 fn whole(start: Start, first: Asked, words: &[u32], second: Asked, more: &[u32]) {
-    let mut out = [0u8; message::LIMIT_BYTES];
+    let mut out = [0u8; limits::LIMIT_BYTES];
     let b = print::told(
         b"begin",
         build::begin(&out, start.kind, start.tag, start.wide, start.discovery),
@@ -66,7 +68,7 @@ fn whole(start: Start, first: Asked, words: &[u32], second: Asked, more: &[u32])
 
 // A message of one command.
 fn single(start: Start, asked: Asked, words: &[u32]) {
-    let mut out = [0u8; message::LIMIT_BYTES];
+    let mut out = [0u8; limits::LIMIT_BYTES];
     let b = print::told(
         b"begin",
         build::begin(&out, start.kind, start.tag, start.wide, start.discovery),
@@ -78,10 +80,10 @@ fn single(start: Start, asked: Asked, words: &[u32]) {
 
 // NOPs: the fixed discovery, also as it is kept, and a message of two.
 fn nops(words: &[u32]) {
-    let advert = [message::LIMIT_BYTES as u32, 0];
+    let advert = [limits::LIMIT_BYTES as u32, 0];
     print::say(b"the fixed discovery\n");
     single(starts(NOP, 0, false, true), plain(0, 0), &advert);
-    let kept = initiator::discovery::bytes();
+    let kept = discovery::bytes();
     print::show(&kept, 3);
     print::say(b"NOPs of 0 and 1 words, with an address\n");
     whole(

@@ -1,6 +1,6 @@
 // What is printed: a line for each call, the words of an output; and the front of the data.
-use initiator::build::Built;
-use initiator::building::Building;
+use building::build::Built;
+use building::record::Building;
 use libc::STDOUT_FILENO;
 
 pub(crate) fn say(text: &[u8]) {

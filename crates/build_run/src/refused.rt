@@ -6,9 +6,10 @@ use crate::WRITE;
 use crate::plain;
 use crate::print;
 use crate::write_at;
-use initiator::asked::Asked;
-use initiator::build;
-use initiator::building::Building;
+use building::asked::Asked;
+use building::build;
+use building::record::Building;
+use header::limits;
 
 // A record as a caller may hand it in.
 fn held(kind: u32, words: usize, last: usize, answer: usize, closed: bool) -> Building {
@@ -26,7 +27,7 @@ fn held(kind: u32, words: usize, last: usize, answer: usize, closed: bool) -> Bu
 
 // The first command of a message.
 fn tried(label: &[u8], kind: u32, asked: Asked, words: &[u32]) {
-    let mut out = [0u8; message::LIMIT_BYTES];
+    let mut out = [0u8; limits::LIMIT_BYTES];
     let given = build::begin(&out, kind, 0, false, false);
     let b = given.building;
     print::told(label, build::add(&mut out, b, asked, words));
@@ -34,8 +35,8 @@ fn tried(label: &[u8], kind: u32, asked: Asked, words: &[u32]) {
 
 // 21: a short output, a kind, a tag, records that no sequence of calls gives.
 pub(crate) fn unusable() {
-    let out = [0u8; message::LIMIT_BYTES];
-    let short = [0u8; message::LIMIT_BYTES - 1];
+    let out = [0u8; limits::LIMIT_BYTES];
+    let short = [0u8; limits::LIMIT_BYTES - 1];
     print::told(
         b"begin in a byte too few",
         build::begin(&short, NOP, 0, false, false),
@@ -52,13 +53,13 @@ pub(crate) fn unusable() {
 
 // What closing says of a record.
 fn reached(label: &[u8], b: Building) {
-    let mut out = [0u8; message::LIMIT_BYTES];
+    let mut out = [0u8; limits::LIMIT_BYTES];
     print::told(label, build::close(&mut out, b));
 }
 
 // 22: closing with nothing added, adding after closing, closing twice.
 pub(crate) fn out_of_turn(words: &[u32]) {
-    let mut out = [0u8; message::LIMIT_BYTES];
+    let mut out = [0u8; limits::LIMIT_BYTES];
     reached(b"close with nothing added", held(WRITE, 0, 0, 0, false));
     reached(b"close twice", held(WRITE, 3, 0, 1, true));
     print::told(
@@ -172,7 +173,7 @@ pub(crate) fn addresses(words: &[u32]) {
 
 // 26: a message and an all-OK answer of the limit, and of one word more.
 pub(crate) fn lengths(words: &[u32]) {
-    let most = message::LIMIT;
+    let most = limits::LIMIT;
     tried(
         b"message of the limit",
         WRITE,

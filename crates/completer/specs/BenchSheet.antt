@@ -6,22 +6,19 @@ use mathlib.Core.List.{List, [], _∷_}
 use lib.Dec.{eqb}
 use lib.ListN.{take, replicate}
 use Rattle.word.specs.Words.{bytesOf}
-use Rattle.message.specs.Limits.{limit, limitBytes}
-use Rattle.completer.specs.declared.tags.TagRecord.{TagRecord}
-use Rattle.completer.specs.declared.serving.Verdict.the-variants.{Refused}
-use Rattle.message.specs.declared.refusal.Refusal.{Refusal}
-use Rattle.message.specs.Walk.{refusedAt, refusal}
+use Rattle.header.specs.declared.refusal.Refusal.{Refusal}
+use Rattle.header.specs.Limits.{limit, limitBytes}
+use Rattle.header.specs.Refusal.{refusedAt, refusal}
 use Rattle.message.specs.Examples.{sameRefusal, gapped, fifthDiffers}
-use Rattle.completer.specs.Tags.{freshRecord}
+use Rattle.tags.specs.declared.record.TagRecord.{TagRecord}
+use Rattle.tags.specs.declared.rule.Verdict.the-variants.{Refused}
+use Rattle.tags.specs.Record.{freshRecord}
+use Rattle.tags.specs.Examples.{holding}
 use Rattle.completer.specs.Serving.{After, afterBy, after}
 
 -- "Memory of 8 zero words but word 4 = F00DFACE"
 abbrev pub benchMemory : List ℕ
 benchMemory = 0 ∷ 0 ∷ 0 ∷ 0 ∷ 0xF00DFACE ∷ 0 ∷ 0 ∷ 0 ∷ []
-
--- a record that holds a tag and the length of its answer
-abbrev pub holding : ℕ → ℕ → TagRecord
-holding tag words = record { fresh = false; tag = tag; words = words }
 
 -- a line of the sheet: the record at first, the datagrams in turn, and after the last one the refusal (number 0: none), all words
 -- sent, the whole memory and the record

@@ -3,19 +3,20 @@
 use Prim.Native.Nat.{ℕ}
 use mathlib.Core.Path.{_≡_}
 use mathlib.Core.Bool.{Bool, true, false, _&&_}
-use mathlib.Core.List.{List, [], _∷_}
+use mathlib.Core.List.{List}
 use lib.ListN.{length, take}
 use Rattle.word.specs.Words.{bytesOf, putWords}
-use Rattle.message.specs.Limits.{limitBytes}
-use Rattle.message.specs.declared.refusal.Refusal.{Refusal}
-use Rattle.message.specs.Walk.{refusal}
-use Rattle.message.specs.Request.{Request, Wrong, Means, read}
+use Rattle.header.specs.declared.refusal.Refusal.{Refusal}
+use Rattle.header.specs.Refusal.{refusal}
+use Rattle.message.specs.Request.{Request, Wrong, Means}
+use Rattle.message.specs.Walk.{read, asked}
 use Rattle.message.specs.Discovery.{discoveryBytes}
-use Rattle.completer.specs.declared.tags.TagRecord.{TagRecord}
-use Rattle.completer.specs.declared.serving.Verdict.the-variants.{New, Repeat, Discovery}
-use Rattle.completer.specs.Tags.{markOf, lentOk, keptOk}
-use Rattle.completer.specs.Carrying.{asked}
-use Rattle.completer.specs.Serving.{After, verdictOf, answerBy, after, sent}
+use Rattle.answer.specs.Discovery.{discoveryAnswer}
+use Rattle.tags.specs.declared.record.TagRecord.{TagRecord}
+use Rattle.tags.specs.declared.rule.Verdict.the-variants.{New, Repeat, Discovery}
+use Rattle.tags.specs.Record.{markOf, keptOk}
+use Rattle.completer.specs.Verdict.{lentOk, verdictOf}
+use Rattle.completer.specs.Serving.{After, answerBy, after, sent}
 
 -- "Each gives its number and length 0; memory, stored answer, record and output are unchanged"
 pub record Unchanged (m s o : List ℕ) (t : TagRecord) (a : After) : Type 0 where
@@ -68,4 +69,4 @@ DiscoveryKeeps m s o t dg =
 abbrev pub DiscoveryAnswered : List ℕ → List ℕ → List ℕ → TagRecord → Type 0
 DiscoveryAnswered m s o t =
     lentOk (length m) (length o) ≡ true → keptOk (length s) t ≡ true
-    → after m s o t discoveryBytes ≡ record { served = sent 3 t; memory = m; stored = s; output = putWords o 0 (0x800200B0 ∷ limitBytes ∷ markOf t ∷ []) }
+    → after m s o t discoveryBytes ≡ record { served = sent 3 t; memory = m; stored = s; output = putWords o 0 (discoveryAnswer (markOf t)) }

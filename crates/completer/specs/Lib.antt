@@ -1,9 +1,6 @@
--- What the contracts of the crate `completer` cite, and what is promised of carrying out and of a call.
-pub mod Moves
-pub mod Answers
-pub mod Carrying
-pub mod Promises
-pub mod Tags
+-- What the contracts of the crate `completer` cite. Called and BenchSheet have no module: the one is what is promised of a call, the
+-- other document 01's lines, which the checker computes.
+pub mod Verdict
 pub mod Serving
-pub mod BenchSheet
 pub mod Called
+pub mod BenchSheet

@@ -1,39 +1,22 @@
 -- The call: whether a message is turned away, and what is there after it. Assumes nothing.
 use Prim.Native.Nat.{ℕ, _*_}
 use mathlib.Core.Path.{_≡_}
-use mathlib.Core.Bool.{Bool, true, false, cond}
+use mathlib.Core.Bool.{Bool, true, false}
 use mathlib.Core.List.{List}
 use lib.ListN.{length, take}
 use Rattle.word.specs.Words.{put, putWords}
-use Rattle.message.specs.declared.refusal.Refusal.{Refusal}
-use Rattle.message.specs.Header.{tagOf, discoveryOf}
-use Rattle.message.specs.Walk.{refusal}
-use Rattle.message.specs.Request.{Request, Reading, Wrong, Means, read}
-use Rattle.completer.specs.declared.tags.TagRecord.{TagRecord}
-use Rattle.completer.specs.declared.serving.Verdict.{Verdict}
-use Rattle.completer.specs.declared.serving.Verdict.the-variants.{Refused, New, Repeat, Discovery}
+use Rattle.header.specs.declared.refusal.Refusal.{Refusal}
+use Rattle.header.specs.Refusal.{refusal}
+use Rattle.message.specs.Request.{Request}
+use Rattle.message.specs.Walk.{asked}
+use Rattle.memory.specs.Moves.{memoryAfter}
+use Rattle.carrying.specs.Answers.{wordsTo}
+use Rattle.tags.specs.declared.record.TagRecord.{TagRecord}
+use Rattle.tags.specs.declared.rule.Verdict.{Verdict}
+use Rattle.tags.specs.declared.rule.Verdict.the-variants.{Refused, New, Repeat, Discovery}
+use Rattle.tags.specs.Record.{markOf, recordBy}
 use Rattle.completer.specs.declared.serving.Served.{Served}
-use Rattle.completer.specs.Moves.{memoryAfter}
-use Rattle.completer.specs.Answers.{wordsTo}
-use Rattle.completer.specs.Carrying.{asked}
-use Rattle.completer.specs.Tags.{repeats, expected, markOf, lentOk, keptOk}
-
--- "With the discovery bit the tag is not compared"; a repeat; new; "Any other is out of step", 11
-unfoldable pub ruleOf : TagRecord → ℕ → Verdict
-ruleOf tags byte0 =
-    cond (discoveryOf byte0) Discovery
-    (cond (repeats tags (tagOf byte0)) Repeat
-    (cond (expected tags (tagOf byte0)) New (Refused (refusal 11))))
-
--- "Then 10, then 11": a message that 2 to 10 let by is judged by its tag
-abbrev pub judged : TagRecord → Reading Request → Verdict
-judged tags (Wrong r) = Refused r
-judged tags (Means r) = ruleOf tags (r .byte0)
-
--- "Checks 1 and 2 come first. Then the commands are walked"
-unfoldable pub verdictOf : ℕ → ℕ → ℕ → TagRecord → List ℕ → Verdict
-verdictOf memory stored output tags dg =
-    cond (lentOk memory output) (cond (keptOk stored tags) (judged tags (read dg)) (Refused (refusal 1))) (Refused (refusal 1))
+use Rattle.completer.specs.Verdict.{verdictOf}
 
 -- what is there after a call
 pub record After : Type 0 where
@@ -49,11 +32,6 @@ sent words tags = record { refusal = refusal 0; sent = 4 * words; tags = tags }
 -- the answer to a request, by the record at entry
 unfoldable pub answerBy : TagRecord → Request → List ℕ → List ℕ
 answerBy tags r memory = wordsTo r (markOf tags) memory
-
--- "store tag and answer", where the answer of n words is kept; else "tag and stored answer stay"
-abbrev pub recordBy : Bool → TagRecord → ℕ → ℕ → TagRecord
-recordBy true tags byte0 n = record { fresh = false; tag = tagOf byte0; words = n }
-recordBy false tags byte0 n = tags
 
 -- refused: "memory, stored answer, record and output are unchanged", length 0. A repeat: "the stored answer is sent, nothing else
 -- happens". New: "carry out, store tag and answer". Discovery: "the message is carried out, and tag and stored answer stay".

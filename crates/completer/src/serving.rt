@@ -1,29 +1,21 @@
-// The controller's call: the verdict on a datagram, and what follows from it.
+// The controller's call: what follows from the verdict on a datagram.
 ghost use mathlib.Core.Path.{_≡_};
 ghost use mathlib.Core.Bool.{true, false, cond};
 ghost use Prim.Native.Nat.{_*_, _≤_};
 ghost use lib.ListN.{length};
-ghost use Rattle.message.specs.Limits.{limit};
-ghost use Rattle.message.specs.Request.{Means, read};
-ghost use Rattle.completer.specs.Carrying.{asked, Room};
-ghost use Rattle.completer.specs.Tags.{recordOk};
-ghost use Rattle.completer.specs.Serving.{ruleOf, judged, verdictOf, recordBy, carriesOf, keepsOf, refusalOf, againOf, Serves, ServesBy, Settles};
-ghost use Rattle.completer.specs.declared.serving.Verdict.the-variants.{New, Discovery};
-use crate::carrying;
-use crate::tags;
-use crate::tags::TagRecord;
-use message::header;
-use message::refusal::Refusal;
-use message::walk;
-use message::walk::Walked;
-
-// What is to be done about a datagram.
-pub enum Verdict {
-    Refused(Refusal),
-    New,
-    Repeat,
-    Discovery,
-}
+ghost use Rattle.header.specs.Limits.{limit};
+ghost use Rattle.message.specs.Request.{Means};
+ghost use Rattle.message.specs.Walk.{read, asked};
+ghost use Rattle.carrying.specs.Putting.{Room};
+ghost use Rattle.tags.specs.Record.{recordOk};
+ghost use Rattle.completer.specs.Serving.{carriesOf, keepsOf, refusalOf, againOf, Serves, ServesBy, Settles};
+ghost use Rattle.tags.specs.declared.rule.Verdict.the-variants.{New, Discovery};
+use crate::verdict;
+use carrying::carry;
+use header::refusal::Refusal;
+use tags::record;
+use tags::record::TagRecord;
+use tags::rule::Verdict;
 
 // What a call gives: the refusal (number 0: none), the bytes sent, which stand at the front of the output, and the record.
 #[repr(C)]
@@ -31,70 +23,6 @@ pub struct Served {
     pub refusal: Refusal,
     pub sent: usize,
     pub tags: TagRecord,
-}
-
-// Something lent, or the record, is not what it must be.
-const LENT: u32 = 1;
-
-// A tag that is neither the stored one nor the next.
-const OUT_OF_STEP: u32 = 11;
-
-// The verdict on a well-formed message of this byte 0, by its tag.
-fn rule(tags: TagRecord, byte0: u32) -> Verdict
-    requires { ⌜ recordOk tags ≡ true ⌝ }
-    ensures { λ r. ⌜ r ≡ ruleOf tags byte0 ⌝ }
-{
-    if header::discovery(byte0) {
-        return Verdict::Discovery;
-    }
-    let tag = header::tag(byte0);
-    if tags::repeats(tags, tag) {
-        return Verdict::Repeat;
-    }
-    if tags::expected(tags, tag) {
-        return Verdict::New;
-    }
-    Verdict::Refused(Refusal {
-        number: OUT_OF_STEP,
-        at: 0,
-    })
-}
-
-// The verdict on any datagram where what is lent is right: 2 to 10, then by the tag.
-fn judge(tags: TagRecord, datagram: &[u8]) -> Verdict
-    requires { ⌜ recordOk tags ≡ true ⌝ }
-    ensures { λ r. ⌜ r ≡ judged tags (read (now (datagram .entry))) ⌝ }
-{
-    let walked = walk::walk(datagram);
-    match walked {
-        Walked::Malformed(refusal) => Verdict::Refused(refusal),
-        Walked::WellFormed(_) => rule(tags, word::wide(datagram[0])),
-    }
-}
-
-// The verdict on any datagram, whatever is lent.
-pub fn verdict_of(
-    memory: usize,
-    stored: usize,
-    output: usize,
-    tags: TagRecord,
-    datagram: &[u8],
-) -> Verdict
-    ensures { λ r. ⌜ r ≡ verdictOf memory stored output tags (now (datagram .entry)) ⌝ }
-{
-    if !tags::lent_ok(memory, output) {
-        return Verdict::Refused(Refusal {
-            number: LENT,
-            at: 0,
-        });
-    }
-    if !tags::kept_ok(stored, tags) {
-        return Verdict::Refused(Refusal {
-            number: LENT,
-            at: 0,
-        });
-    }
-    judge(tags, datagram)
 }
 
 // Whether a verdict has the message carried out.
@@ -163,24 +91,6 @@ fn settle(stored: &[u32], output: &mut [u8], tags: TagRecord, verdict: Verdict) 
     }
 }
 
-// The record after a message was carried out, whose answer has n words.
-fn record_after(tags: TagRecord, byte0: u32, n: usize, keep: bool) -> TagRecord
-    ensures { λ r. ⌜ r ≡ recordBy keep tags byte0 n ⌝ }
-{
-    if keep {
-        return TagRecord {
-            fresh: false,
-            tag: header::tag(byte0),
-            words: n,
-        };
-    }
-    TagRecord {
-        fresh: tags.fresh,
-        tag: tags.tag,
-        words: tags.words,
-    }
-}
-
 // A message that is carried out: a new one, whose answer is kept, or a discovery.
 fn act(
     memory: &mut [u32],
@@ -195,19 +105,19 @@ fn act(
         (now (memory .exit)) (now (stored .exit)) (now (output .exit)) ⌝ }
 {
     let byte0 = word::wide(datagram[0]);
-    let n = carrying::carry(
+    let n = carry::carry(
         memory,
         stored,
         output,
         datagram,
         byte0,
-        tags::mark(tags),
+        record::mark(tags),
         keep,
     );
     Served {
         refusal: Refusal { number: 0, at: 0 },
         sent: 4 * n,
-        tags: record_after(tags, byte0, n, keep),
+        tags: record::record_after(tags, byte0, n, keep),
     }
 }
 
@@ -222,7 +132,7 @@ pub fn serve(
     ensures { λ r. ⌜ Serves (now (memory .entry)) (now (stored .entry)) (now (output .entry)) tags (now (datagram .entry)) r
         (now (memory .exit)) (now (stored .exit)) (now (output .exit)) ⌝ }
 {
-    let verdict = verdict_of(memory.len(), stored.len(), output.len(), tags, datagram);
+    let verdict = verdict::verdict_of(memory.len(), stored.len(), output.len(), tags, datagram);
     if carries(verdict) {
         return act(memory, stored, output, tags, datagram, keeps(verdict));
     }

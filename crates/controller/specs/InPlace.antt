@@ -2,7 +2,7 @@
 use Prim.Native.Nat.{ℕ}
 use mathlib.Core.Path.{_≡_}
 use mathlib.Core.List.{List}
-use Rattle.completer.specs.declared.tags.TagRecord.{TagRecord}
+use Rattle.tags.specs.declared.record.TagRecord.{TagRecord}
 use Rattle.completer.specs.Serving.{after}
 use Rattle.controller.specs.declared.Sent.{Sent}
 

@@ -1,11 +1,10 @@
 // The controller's call in place, for its main loop: the tag record is lent by reference.
 //
 // The one function is what the firmware's static library exports; it holds the whole call, with no wrapper around it.
-ghost use mathlib.Core.Path.{_≡_};
 ghost use Rattle.controller.specs.InPlace.{ServesInPlace};
 use completer::serving;
-use completer::tags::TagRecord;
-use message::refusal::Refusal;
+use header::refusal::Refusal;
+use tags::record::TagRecord;
 
 // What a call gives beside the record: the refusal (number 0: none) and the bytes sent, which stand at the front of the output.
 #[repr(C)]

@@ -8,11 +8,13 @@ use borrow.Author.Tests.{ltb-true, leb-true, lt-ltb}
 use lib.Dec.{ltb, leb}
 use lib.ListN.{length}
 use Rattle.word.specs.Words.{Below}
-use Rattle.message.specs.declared.header.Kind.{Kind}
-use Rattle.message.specs.declared.header.Kind.the-variants.{Nop, Write, Read, Response}
-use Rattle.message.specs.Limits.{limitBytes}
-use Rattle.message.specs.Header.{kindOf, discoveryOf}
-use Rattle.message.specs.Request.{Request, Reading, Wrong, Means, read}
+use Rattle.word.proofs.Runs.{below-none, below-cons}
+use Rattle.header.specs.declared.Kind.{Kind}
+use Rattle.header.specs.declared.Kind.the-variants.{Nop, Write, Read, Response}
+use Rattle.header.specs.Limits.{limitBytes}
+use Rattle.header.specs.Header.{kindOf, discoveryOf}
+use Rattle.message.specs.Request.{Request, Reading, Wrong, Means}
+use Rattle.message.specs.Walk.{read}
 use Rattle.initiator.specs.Sender.{asksAs}
 use Rattle.once.specs.Runs.{Always}
 use Rattle.once.specs.World.{World, Event, offer, send, arrive, back, other, Origin, message, stranger, finished, sent, given, room, step}
@@ -27,9 +29,8 @@ below? n [] = true
 below? n (x ∷ xs) = ltb x n && below? n xs
 
 pub below-so : (n : ℕ) (l : List ℕ) → below? n l ≡ true → Below n l
-unfolding Below
-below-so n [] e = tt
-below-so n (x ∷ xs) e = let p = both-true (ltb x n) _ e in (ltb-true x n (p .0), below-so n xs (p .1))
+below-so n [] e = below-none n
+below-so n (x ∷ xs) e = let p = both-true (ltb x n) _ e in below-cons n x xs (ltb-true x n (p .0)) (below-so n xs (p .1))
 
 abbrev changesNot? : Kind → Bool
 changesNot? Nop = true

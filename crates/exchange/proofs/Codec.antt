@@ -1,37 +1,35 @@
 -- What crosses the channel: a plain message is read as it was written, its own answer is judged to say its outcome, and any other
 -- answer is 33. The facts of both ends cite these. Assumes nothing.
 use Prim.Native.Nat.{ℕ, zero, suc}
-use mathlib.Core.Path.{_≡_, refl, sym, ap, _∙_}
+use mathlib.Core.Path.{_≡_, refl, sym, ap, _∙_, fun-ext}
 use mathlib.Core.Bool.{Bool, true, false}
 use mathlib.Core.List.{List, [], _∷_}
 use native.Mathlib.Decide.{ℕ-discrete}
 use lib.ListN.{length, getD}
-use Rattle.message.specs.declared.header.Kind.{Kind}
-use Rattle.message.specs.Header.{tagOf, kindOf, discoveryOf}
-use Rattle.message.specs.Walk.{refusal}
-use Rattle.message.specs.Request.{Request, Wrong, Means, read, lengthOk, Fits}
-use Rattle.message.specs.Answer.{Answered, answerByte, judge}
+use Rattle.header.specs.declared.Kind.{Kind}
+use Rattle.header.specs.Header.{tagOf, kindOf, discoveryOf}
+use Rattle.header.specs.Refusal.{refusal}
+use Rattle.header.specs.Limits.{lengthOk}
+use Rattle.message.specs.Request.{Request, Reading, Wrong, Means, Fits}
+use Rattle.message.specs.Walk.{read, asked}
 use Rattle.message.proofs.Laws.Faults.{no-mean}
-use Rattle.message.proofs.Laws.Answers.{answer-tag, answer-discovery}
 use Rattle.message.proofs.Laws.Back.{written-read}
 use Rattle.message.proofs.Laws.Going.{read-first}
-use Rattle.message.proofs.Laws.Judged.{judge-encoded, other-byte}
-use Rattle.message.proofs.Laws.Looking.{judge-long}
-use Rattle.completer.specs.Answers.{failed}
-use Rattle.completer.specs.Carrying.{asked}
-use Rattle.initiator.specs.Outcome.{judgedBy, endingAt, dataAt}
+use Rattle.message.proofs.Laws.Back as message
+use Rattle.answer.specs.Answer.{Answered, answerByte, judge}
+use Rattle.answer.proofs.Laws.Answers.{answer-tag, answer-discovery}
+use Rattle.answer.proofs.Laws.Judged.{judge-encoded, other-byte}
+use Rattle.answer.proofs.Laws.Looking.{judge-long}
+use Rattle.carrying.specs.Answers.{failed}
+use Rattle.initiator.specs.Outcome.{judgedBy}
+use Rattle.initiator.proofs.Laws.Outcomes.{judged-plain, ending-first, ending-next, data-first, data-next}
 use Rattle.exchange.specs.Outcomes.{Outcome, each, toldAt, told, resultOf, resultsIn}
 use Rattle.exchange.specs.Sight.{Plain, Encodes, Answers}
-
--- what a datagram asks is what it means
-pub means-asked : (d : List ℕ) (r : Request) → read d ≡ Means r → asked d ≡ r
-unfolding asked
-means-asked d r e = rw e
 
 -- a plain message asks for its request, which fits; its first byte is byte 0
 module _ {d : List ℕ} (p : Plain d) where
   pub asked-is : asked d ≡ p .request
-  asked-is = means-asked d (p .request) (p .is)
+  asked-is = message.asked-is d (p .request) (p .is)
 
   pub plain-fits : Fits (p .request)
   plain-fits = written-read d (p .request) (p .bytes) (p .is) .0
@@ -47,8 +45,7 @@ module _ {d : List ℕ} (p : Plain d) where
 
   -- 31 lets it by, so an answer is judged
   pub judged-by : (a : List ℕ) → judgedBy (read d) a ≡ judge (p .request) a
-  unfolding judgedBy
-  judged-by a = rw (p .is, p .clear)
+  judged-by a = ap (λ (x : Reading Request). judgedBy x a) (p .is) ∙ judged-plain (p .request) a (p .clear)
 
 -- an answer that may be given to a request is judged to be what it says
 pub encodes-judged : {r : Request} {items : List Answered} {a : List ℕ} → Fits r → Encodes r items a → judge r a ≡ Means items
@@ -93,9 +90,15 @@ result-at kind (a ∷ more) (suc k) = result-at kind more k
 
 -- command by command, the outcome functions tell what the answers say
 each-told : (message : List ℕ) (items : List Answered) → each (length items) (toldAt message (Means items)) ≡ resultsIn (kindOf (getD message 0 0)) items
-unfolding each resultsIn endingAt dataAt
+unfolding each resultsIn
 each-told message [] = refl
-each-told message (a ∷ more) = rw (each-told message more)
+each-told message (a ∷ more) = rw (ending-first a more, data-first a more kind, fun-ext next, each-told message more)
+  where
+    kind : Kind
+    kind = kindOf (getD message 0 0)
+
+    next : (k : ℕ) → toldAt message (Means (a ∷ more)) (suc k) ≡ toldAt message (Means more) k
+    next k = rw (ending-next a more k, data-next a more kind k)
 
 module _ {d : List ℕ} (p : Plain d) {o : Outcome} {a : List ℕ} (h : Answers d o a) where
   -- a message's own answer is judged to be the answers given

@@ -5,34 +5,37 @@ use mathlib.Core.Bool.{Bool, true, false, cond}
 use mathlib.Core.Option.{none, some, Option·some-injective}
 use mathlib.Core.List.{List}
 use native.Mathlib.Omega.{arith}
-use borrow.Author.Tests.{le-ltb, le-leb, lt-leb, ne-eqb}
+use borrow.Author.Tests.{ne-eqb}
 use lib.Dec.{eqb}
 use lib.ListN.{length, getD, take}
 use Rattle.word.specs.Words.{bytesOf, put}
 use Rattle.word.proofs.Runs.{length-put, put-front, words-front}
-use Rattle.message.specs.declared.header.Kind.the-variants.{Write}
-use Rattle.message.specs.declared.refusal.Refusal.{Refusal}
-use Rattle.message.specs.Limits.{limit}
-use Rattle.message.specs.Header.{tagOf, kindOf, discoveryOf}
-use Rattle.message.specs.Walk.{refusal}
-use Rattle.message.specs.Request.{Request, Reading, Wrong, Means, read, Fits}
+use Rattle.header.specs.declared.Kind.the-variants.{Write}
+use Rattle.header.specs.declared.refusal.Refusal.{Refusal}
+use Rattle.header.specs.Header.{tagOf, kindOf, discoveryOf}
+use Rattle.header.specs.Refusal.{refusal}
+use Rattle.message.specs.Request.{Request, Reading, Wrong, Means, Fits}
+use Rattle.message.specs.Walk.{read, asked}
 use Rattle.message.proofs.Laws.Back.{written-read}
 use Rattle.message.proofs.Laws.Exactly.{refusal-range}
-use Rattle.completer.specs.declared.serving.Verdict.the-variants.{Refused, New, Repeat, Discovery}
-use Rattle.completer.specs.Moves.{memoryAfter}
-use Rattle.completer.specs.Answers.{answerTo}
-use Rattle.completer.specs.Carrying.{asked}
-use Rattle.completer.specs.Tags.{markOf, heldOk, recordOk}
-use Rattle.completer.specs.Serving.{After, ruleOf, judged, afterBy}
-use Rattle.completer.proofs.Laws.Promised.{same-length, stays-words, quiet}
+use Rattle.message.proofs.Laws.Back as message
+use Rattle.memory.specs.Moves.{memoryAfter}
+use Rattle.memory.proofs.Laws.Promised.{same-length, stays-words, quiet}
+use Rattle.carrying.proofs.Laws.Promised.{answer-to}
+use Rattle.tags.specs.declared.rule.Verdict.the-variants.{Refused, New, Repeat, Discovery}
+use Rattle.tags.specs.Record.{markOf}
+use Rattle.tags.specs.Rule.{ruleOf}
+use Rattle.tags.proofs.Laws.Records.{rule-finds, record-held}
+use Rattle.completer.specs.Serving.{After, afterBy}
+use Rattle.completer.specs.Verdict.{judged}
 use Rattle.completer.proofs.Laws.Calls.{repeat-sends}
 use Rattle.once.specs.Tags.{new, again, late, verdict, tagIn, answerIn, Carried, Kept}
 use Rattle.exchange.specs.Outcomes.{outcomeOver}
 use Rattle.exchange.specs.Ends.{Controller, ends, controllerIn, sentIn, serving}
 use Rattle.exchange.specs.Terms.{Lendable, findsOnly, Finds, terms, Sound}
 use Rattle.exchange.specs.Sight.{Plain, Encodes, Answers, Strange, storedBy, sight}
-use Rattle.exchange.proofs.Codec.{means-asked, asked-is, asked-fits, first-is}
-use Rattle.exchange.proofs.Going.{mark-free, verdict-is, serving-is, rule-finds, judged-is, items, words, encodes, short, some-words}
+use Rattle.exchange.proofs.Codec.{asked-is, asked-fits, first-is}
+use Rattle.exchange.proofs.Going.{mark-free, verdict-is, serving-is, judged-is, items, words, encodes, short, some-words}
 
 -- a new message
 module _ (c : Controller) (b d : List ℕ) (h : Sound c) (l : Lendable b) (p : Plain d) (v : verdict (tagIn (storedBy c)) (tagOf (getD d 0 0)) ≡ new) where
@@ -46,16 +49,17 @@ module _ (c : Controller) (b d : List ℕ) (h : Sound c) (l : Lendable b) (p : P
   first-tag = ap (λ (r : Request). tagOf (r .byte0)) (asked-is p) ∙ ap tagOf (sym (first-is p))
 
   says : Answers d (outcomeOver (c .memory) d) (bytesOf reply)
-  unfolding outcomeOver answerTo
+  unfolding outcomeOver
   says =
       record {
         items = items c h (asked d) (asked-fits p);
         encodes = encodes c h (asked d) (asked-fits p);
-        says = mark-free (kindOf (asked d .byte0)) 0 (markOf (c .tags)) (c .memory) (asked d .commands);
+        says =
+            rw (answer-to (asked d) 0 (c .memory), answer-to (asked d) (markOf (c .tags)) (c .memory))
+            (mark-free (kindOf (asked d .byte0)) 0 (markOf (c .tags)) (c .memory) (asked d .commands));
       }
 
   sound-new : Sound (controllerIn (afterBy New (c .memory) (c .stored) b (c .tags) (asked d)))
-  unfolding recordOk heldOk
   sound-new =
       let n = same-length (asked d) (c .memory) in
       let k = short c h (asked d) (asked-fits p) in
@@ -65,7 +69,7 @@ module _ (c : Controller) (b d : List ℕ) (h : Sound c) (l : Lendable b) (p : P
         some = rw n (h .some);
         most = rw n (h .most);
         stored = rw (length-put (c .stored) 0 reply (omega (arith, h .stored))) (h .stored);
-        tags = rw (lt-leb 16 (tagOf (asked d .byte0)) (omega arith), le-ltb (length reply) 1 z, le-leb (length reply) limit k);
+        tags = record-held (tagOf (asked d .byte0)) (length reply) (omega arith) z k;
       }
 
   pub does-new : Carried ends terms sight c d (ends .serve c b d)
@@ -146,7 +150,7 @@ module _ (c : Controller) (b : List ℕ) (h : Sound c) (l : Lendable b) where
       )
     where
       is : asked x ≡ r
-      is = means-asked x r e
+      is = message.asked-is x r e
 
       fits : Fits (asked x)
       fits = rw is (written-read x r (f .bytes) e .0)

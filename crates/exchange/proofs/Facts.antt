@@ -1,8 +1,8 @@
 -- The two ends of this project meet the facts that `once` asks of two ends with tags. The theorems cite `tagged`. Assumes nothing.
+use Prim.Native.Nat.{ℕ}
 use mathlib.Core.Path.{_≡_, refl, sym, ap, subst}
 use mathlib.Core.Option.{none}
 use mathlib.Core.List.{List}
-use Prim.Native.Nat.{ℕ}
 use Rattle.once.specs.Tags.{Tagged, Carried, Kept, answerIn}
 use Rattle.exchange.specs.Ends.{ends}
 use Rattle.exchange.specs.Terms.{terms}

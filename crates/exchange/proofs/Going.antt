@@ -1,35 +1,37 @@
 -- What the controller's call goes by: check 1 passed, the verdict by the rule of tags, and the answer that it gives. Assumes nothing.
-use Prim.Native.Nat.{ℕ, _+_, _%_, _<_, _≤_}
+use Prim.Native.Nat.{ℕ, _<_, _≤_}
 use mathlib.Core.Path.{_≡_, refl, sym, ap, _∙_}
 use mathlib.Core.Bool.{Bool, true, false, cond}
 use mathlib.Core.Option.{Option, none, some, Option·some-injective}
 use mathlib.Core.List.{List, [], _∷_}
 use native.Mathlib.Omega.{arith}
-use borrow.Author.Tests.{le-ltb, le-leb}
 use lib.Dec.{eqb}
 use lib.ListN.{length, getD, take}
 use Rattle.word.specs.Words.{bytesOf}
 use Rattle.word.proofs.Runs.{length-bytes}
-use Rattle.message.specs.declared.header.Kind.{Kind}
-use Rattle.message.specs.declared.header.Kind.the-variants.{Nop, Write, Read, Response}
-use Rattle.message.specs.declared.answer.Status.the-variants.{Ok}
-use Rattle.message.specs.Limits.{limit, limitBytes}
-use Rattle.message.specs.Header.{tagOf, discoveryOf}
-use Rattle.message.specs.Walk.{refusal}
-use Rattle.message.specs.Request.{Command, Request, read, Fits}
-use Rattle.message.specs.Answer.{Answered}
-use Rattle.message.proofs.Laws.Answering.{encoded-is}
-use Rattle.message.proofs.Laws.Back.{right}
-use Rattle.completer.specs.declared.tags.TagRecord.{TagRecord}
-use Rattle.completer.specs.declared.serving.Verdict.{Verdict}
-use Rattle.completer.specs.declared.serving.Verdict.the-variants.{Refused, New, Repeat, Discovery}
-use Rattle.completer.specs.Moves.{fails, movesOf, afterMoves}
-use Rattle.completer.specs.Answers.{okWords, done, failed, answerOf, answers, answerTo, wordsTo}
-use Rattle.completer.specs.Carrying.{asked}
-use Rattle.completer.specs.Tags.{repeats, expected, markOf, lentOk, keptOk}
-use Rattle.completer.specs.Serving.{ruleOf, judged, verdictOf, answerBy, afterBy, after}
-use Rattle.completer.proofs.Laws.Promised.{answer-fits}
-use Rattle.completer.proofs.Laws.Verdicts.{holds}
+use Rattle.header.specs.declared.Kind.{Kind}
+use Rattle.header.specs.declared.Kind.the-variants.{Nop, Write, Read, Response}
+use Rattle.header.specs.Limits.{limit}
+use Rattle.header.specs.Header.{tagOf, discoveryOf, nextTag}
+use Rattle.header.specs.Refusal.{refusal}
+use Rattle.header.proofs.Laws.Lengths.{right}
+use Rattle.message.specs.Request.{Command, Request, Fits}
+use Rattle.message.specs.Walk.{read, asked}
+use Rattle.answer.specs.declared.Status.the-variants.{Ok}
+use Rattle.answer.specs.Answer.{Answered}
+use Rattle.answer.proofs.Laws.Answering.{encoded-is}
+use Rattle.memory.specs.Moves.{fails, movesOf, afterMoves}
+use Rattle.carrying.specs.Answers.{okWords, done, failed, answers, answerTo}
+use Rattle.carrying.proofs.Laws.Promised.{answers-none, answers-more, words-to, answer-fits}
+use Rattle.tags.specs.declared.rule.Verdict.{Verdict}
+use Rattle.tags.specs.declared.rule.Verdict.the-variants.{Refused, New, Repeat}
+use Rattle.tags.specs.Rule.{repeats, expected, ruleOf}
+use Rattle.tags.specs.Record.{markOf, keptOk}
+use Rattle.tags.proofs.Laws.Records.{holds, rule-plain, repeats-fresh, repeats-by, expected-fresh, expected-by, mark-small, kept-ok}
+use Rattle.completer.specs.Verdict.{lentOk, judged, verdictOf}
+use Rattle.completer.specs.Serving.{answerBy, afterBy}
+use Rattle.completer.proofs.Laws.Calls as completer
+use Rattle.completer.proofs.Laws.Calls.{lent-fits, called-by, answer-by}
 use Rattle.initiator.specs.Outcome.{dataOf}
 use Rattle.once.specs.Tags as Tags
 use Rattle.once.specs.Tags.{new, again, late, verdict, tagIn}
@@ -47,9 +49,10 @@ data-free Read a b m c = refl
 data-free Response a b m c = refl
 
 pub mark-free : (kind : Kind) (a b : ℕ) (m : List ℕ) (cs : List Command) → resultsIn kind (answers kind a m cs) ≡ resultsIn kind (answers kind b m cs)
-unfolding resultsIn answers answerOf
-mark-free kind a b m [] = refl
-mark-free kind a b m (c ∷ cs) = go (fails kind (length m) c) (mark-free kind a b (afterMoves m (movesOf kind c)) cs)
+unfolding resultsIn
+mark-free kind a b m [] = rw (answers-none kind a m, answers-none kind b m)
+mark-free kind a b m (c ∷ cs) =
+    rw (answers-more kind a m c cs, answers-more kind b m c cs) (go (fails kind (length m) c) (mark-free kind a b (afterMoves m (movesOf kind c)) cs))
   where
     rest : ℕ → List Answered
     rest x = answers kind x (afterMoves m (movesOf kind c)) cs
@@ -62,21 +65,17 @@ mark-free kind a b m (c ∷ cs) = go (fails kind (length m) c) (mark-free kind a
 -- what an allowed controller is lent passes check 1
 module _ (c : Controller) (b : List ℕ) (h : Sound c) (l : Lendable b) where
   pub lent-ok : lentOk (length (c .memory)) (length b) ≡ true
-  unfolding lentOk
-  lent-ok = rw (le-ltb (length (c .memory)) 1 (h .some), le-ltb _ (length (c .memory)) (h .most), le-leb limitBytes (length b) l)
+  lent-ok = lent-fits (length (c .memory)) (length b) (h .some) (h .most) l
 
-  pub kept-ok : keptOk (length (c .stored)) (c .tags) ≡ true
-  unfolding keptOk
-  kept-ok = rw (le-ltb (length (c .stored)) limit (h .stored), h .tags)
+  pub kept-fits : keptOk (length (c .stored)) (c .tags) ≡ true
+  kept-fits = kept-ok (length (c .stored)) (c .tags) (h .stored) (h .tags)
 
   pub verdict-is : (x : List ℕ) → verdictOf (length (c .memory)) (length (c .stored)) (length b) (c .tags) x ≡ judged (c .tags) (read x)
-  unfolding verdictOf
-  verdict-is x = rw (lent-ok, kept-ok)
+  verdict-is x = completer.verdict-is (c .memory) (c .stored) b (c .tags) lent-ok kept-fits x
 
   -- so the call goes by the verdict on the datagram
   pub serving-is : (x : List ℕ) (v : Verdict) → judged (c .tags) (read x) ≡ v → serving c b x ≡ afterBy v (c .memory) (c .stored) b (c .tags) (asked x)
-  unfolding after
-  serving-is x v e = rw (verdict-is x, e)
+  serving-is x v e = called-by (c .memory) (c .stored) b (c .tags) lent-ok kept-fits x v e
 
 -- the rule of tags is that of `once`
 abbrev ruled : Tags.Verdict → Verdict
@@ -85,29 +84,20 @@ ruled again = Repeat
 ruled late = Refused (refusal 11)
 
 rule-is : (c : Controller) (byte0 : ℕ) → discoveryOf byte0 ≡ false → ruleOf (c .tags) byte0 ≡ ruled (verdict (tagIn (storedBy c)) (tagOf byte0))
-unfolding ruleOf repeats expected
-rule-is c byte0 z = rw z (go (c .tags .fresh))
+rule-is c byte0 z = rule-plain (c .tags) byte0 z ∙ go (c .tags .fresh) refl
   where
     t : ℕ
     t = tagOf byte0
-
-    u : ℕ
-    u = c .tags .tag
 
     by : (p q : Bool) → cond p Repeat (cond q New (Refused (refusal 11))) ≡ ruled (cond p again (cond q new late))
     by true q = refl
     by false true = refl
     by false false = refl
 
-    go : (f : Bool)
-        → cond (cond f false (eqb t u)) Repeat (cond (cond f true (eqb t ((u + 1) % 16))) New (Refused (refusal 11)))
-        ≡ ruled (verdict (tagIn (cond f none (some (u, bytesOf (take (c .tags .words) (c .stored)))))) t)
-    go true = refl
-    go false = by (eqb t u) (eqb t ((u + 1) % 16))
-
-pub rule-finds : (tags : TagRecord) (byte0 : ℕ) → discoveryOf byte0 ≡ true → ruleOf tags byte0 ≡ Discovery
-unfolding ruleOf
-rule-finds tags byte0 e = rw e
+    go : (f : Bool) → c .tags .fresh ≡ f
+        → cond (repeats (c .tags) t) Repeat (cond (expected (c .tags) t) New (Refused (refusal 11))) ≡ ruled (verdict (tagIn (storedBy c)) t)
+    go true f = rw (repeats-fresh (c .tags) t f, expected-fresh (c .tags) t f, f)
+    go false f = rw (repeats-by (c .tags) t f, expected-by (c .tags) t f, f) (by (eqb t (c .tags .tag)) (eqb t (nextTag (c .tags .tag))))
 
 pub judged-is : (c : Controller) {d : List ℕ} (p : Plain d) (v : Tags.Verdict) → verdict (tagIn (storedBy c)) (tagOf (getD d 0 0)) ≡ v → judged (c .tags) (read d) ≡ ruled v
 judged-is c {d} p v e =
@@ -123,14 +113,6 @@ stored-small c t a h e = go (c .tags .fresh) refl e
         let i = ap (λ (u : ℕ × List ℕ). u .0) (Option·some-injective _ _ q) in
         omega (arith, holds (c .tags) (h .tags) z .tag, i)
 
-pub mark-small : (c : Controller) → Sound c → markOf (c .tags) < 32
-unfolding markOf
-mark-small c h = go (c .tags .fresh) refl
-  where
-    go : (f : Bool) → c .tags .fresh ≡ f → cond f 0 (c .tags .tag + 16) < 32
-    go true z = omega arith
-    go false z = omega (arith, holds (c .tags) (h .tags) z .tag)
-
 -- the answer to a request that fits, over an allowed controller's memory
 module _ (c : Controller) (h : Sound c) (r : Request) (f : Fits r) where
   abbrev pub items : List Answered
@@ -140,16 +122,14 @@ module _ (c : Controller) (h : Sound c) (r : Request) (f : Fits r) where
   words = answerBy (c .tags) r (c .memory)
 
   pub encodes : Encodes r items (bytesOf words)
-  unfolding answerBy wordsTo
   encodes =
       record {
-        fits = answer-fits r (markOf (c .tags)) (c .memory) f (h .words) (omega (arith, mark-small c h)) .fits;
-        is = sym (encoded-is r items);
+        fits = answer-fits r (markOf (c .tags)) (c .memory) f (h .words) (omega (arith, mark-small (c .tags) (h .tags))) .fits;
+        is = rw (answer-by (c .tags) r (c .memory), words-to r (markOf (c .tags)) (c .memory)) (sym (encoded-is r items));
       }
 
   pub short : length words ≤ limit
-  unfolding answerBy
-  short = answer-fits r (markOf (c .tags)) (c .memory) f (h .words) (omega (arith, mark-small c h)) .short
+  short = rw (answer-by (c .tags) r (c .memory)) (answer-fits r (markOf (c .tags)) (c .memory) f (h .words) (omega (arith, mark-small (c .tags) (h .tags))) .short)
 
   pub some-words : 0 < length words
   some-words = omega (arith, right (length (bytesOf words)) (judged-headed r (bytesOf words) items (encodes-judged f encodes) .long) .some, length-bytes words)

@@ -1,10 +1,10 @@
 -- The theorems of specs/Promise.antt. Assumes nothing.
 use native.Mathlib.Omega.{arith}
 use lib.ListN.{length, getD}
-use Rattle.message.specs.Header.{kindOf}
-use Rattle.completer.specs.Answers.{failed, answerTo}
-use Rattle.completer.specs.Carrying.{asked}
-use Rattle.completer.proofs.Laws.Promised.{answers-then}
+use Rattle.header.specs.Header.{kindOf}
+use Rattle.message.specs.Walk.{asked}
+use Rattle.carrying.specs.Answers.{failed, answerTo}
+use Rattle.carrying.proofs.Laws.Promised.{answers-then}
 use Rattle.once.proofs.Promise.{finished-or-one-more}
 use Rattle.once.proofs.Tagged.{tagged-safety, tagged-progress, tagged-extends, tagged-says}
 use Rattle.exchange.specs.Promise.{Memory, FinishedOutcomes, OutcomeThen, AllFinished, NeverStuck, Tags}

@@ -5,21 +5,18 @@ use mathlib.Core.Bool.{Bool, true, false, cond, false≢true}
 use mathlib.Core.Option.{none, some, Option·some-injective}
 use mathlib.Core.List.{List, [], _∷_}
 use native.Mathlib.Omega.{arith}
-use borrow.Author.Tests.{eqb-true, lt-ltb, eq-eqb}
-use lib.Dec.{eqb, ltb}
+use borrow.Author.Tests.{eqb-true, eq-eqb}
 use lib.ListN.{length, getD}
-use Rattle.message.specs.declared.refusal.Refusal.{Refusal}
-use Rattle.message.specs.Header.{tagOf, discoveryOf}
-use Rattle.message.specs.Walk.{refusal}
-use Rattle.message.specs.Request.{Request, Reading, Wrong, Means, read}
-use Rattle.message.specs.Answer.{Answered}
+use Rattle.header.specs.Header.{tagOf, discoveryOf}
+use Rattle.header.specs.Refusal.{refusal}
+use Rattle.message.specs.Request.{Request, Reading, Wrong, Means}
+use Rattle.message.specs.Walk.{read}
 use Rattle.message.proofs.Laws.Going.{read-first}
-use Rattle.initiator.specs.declared.sender.Sender.{Sender}
 use Rattle.initiator.specs.declared.sender.Moved.{Moved}
 use Rattle.initiator.specs.Outcome.{judgedBy}
-use Rattle.initiator.specs.Sender.{asksAs, askFault, offerFault, sendFault, offerOf, sendOf, takenBy, takeOf}
+use Rattle.initiator.specs.Sender.{asksAs, sendFault}
 use Rattle.initiator.proofs.Laws.Sending.{asks-wrong, asks-discovery, asks-tag}
-use Rattle.initiator.proofs.Laws.Promised.{take-judged}
+use Rattle.initiator.proofs.Laws.Checked.{offer-fine, offer-full, send-fine, sends-all, idle-fault, sends-none, take-idle, take-accepts, take-refuses}
 use Rattle.once.specs.Tags.{Waits, Still, Turned, Ended}
 use Rattle.exchange.specs.Outcomes.{Outcome, told}
 use Rattle.exchange.specs.Ends.{Loader, ends, offeredIn, handed, takenIn}
@@ -56,48 +53,6 @@ waiting-some false m d e = let z : _≡_ {A = ℕ} 0 1 = cc in absurd (omega ari
 waiting-none : (b : Bool) (m : List ℕ) → cond b (some m) none ≡ none → b ≡ false
 waiting-none true m e = let z : _≡_ {A = ℕ} 0 1 = cc in absurd (omega arith)
 waiting-none false m e = refl
-
--- the calls by their checks
-module _ (s : Sender) (m : List ℕ) where
-  offer-fine : s .next < 16 → s .waits ≡ false → asksAs (s .next) (read m) ≡ true → offerOf s m ≡ record { refusal = refusal 0; sender = record { next = s .next; waits = true } }
-  unfolding offerOf offerFault askFault
-  offer-fine n w a = rw (lt-ltb (s .next) 16 n, w, a)
-
-  offer-full : s .next < 16 → s .waits ≡ true → offerOf s m ≡ record { refusal = refusal 36; sender = s }
-  unfolding offerOf offerFault
-  offer-full n w = rw (lt-ltb (s .next) 16 n, w)
-
-  send-fine : s .next < 16 → s .waits ≡ true → asksAs (s .next) (read m) ≡ true → sendFault s m .number ≡ 0
-  unfolding sendFault askFault
-  send-fine n w a = rw (lt-ltb (s .next) 16 n, w, a)
-
-  sends-all : sendFault s m .number ≡ 0 → sendOf s m ≡ m
-  unfolding sendOf
-  sends-all e = rw (eq-eqb _ _ e)
-
-  -- 30, or 37 before it
-  idle-fault : s .waits ≡ false → eqb (sendFault s m .number) 0 ≡ false
-  unfolding sendFault
-  idle-fault w = rw w (go (ltb (s .next) 16))
-    where
-      go : (b : Bool) → eqb (cond b (refusal 30) (refusal 37) .number) 0 ≡ false
-      go true = refl
-      go false = refl
-
-  sends-none : eqb (sendFault s m .number) 0 ≡ false → sendOf s m ≡ []
-  unfolding sendOf
-  sends-none e = rw e
-
-  take-idle : (a : List ℕ) → eqb (sendFault s m .number) 0 ≡ false → takeOf s m a ≡ record { refusal = sendFault s m; sender = s }
-  unfolding takeOf
-  take-idle a e = rw e
-
-  module _ (a : List ℕ) (e : sendFault s m .number ≡ 0) where
-    take-fine : (items : List Answered) → judgedBy (read m) a ≡ Means items → takeOf s m a ≡ record { refusal = refusal 0; sender = record { next = (s .next + 1) % 16; waits = false } }
-    take-fine items g = take-judged s m a e ∙ ap (takenBy s) g
-
-    take-wrong : (r : Refusal) → judgedBy (read m) a ≡ Wrong r → takeOf s m a ≡ record { refusal = r; sender = s }
-    take-wrong r g = take-judged s m a e ∙ ap (takenBy s) g
 
 -- bytes that are some are handed back
 handed-some : (d : List ℕ) → 0 < length d → handed d ≡ some d
@@ -143,13 +98,13 @@ module _ {s : Loader} {d : List ℕ} (w : Waits ends terms sight s d) where
   takes-own {o} {a} h =
       let g : judgedBy (read (s .message)) a ≡ Means (h .items) = rw lent (own-judged (w .plain) h) in
       let t : told (s .message) a ≡ o = rw lent (own-told (w .plain) h) in
-      ap (λ (r : Moved). takenIn r s a) (take-fine (s .sender) (s .message) a fine (h .items) g) ∙ rw t
+      ap (λ (r : Moved). takenIn r s a) (take-accepts (s .sender) (s .message) a fine (h .items) g) ∙ rw t
 
   -- one that is 33 does not
   refuses : (a : List ℕ) → judgedBy (read d) a ≡ Wrong (refusal 33) → Turned ends terms sight s (ends .take s a)
   refuses a g =
       let h : judgedBy (read (s .message)) a ≡ Wrong (refusal 33) = rw lent g in
-      turned s _ (ap (λ (r : Moved). takenIn r s a) (take-wrong (s .sender) (s .message) a fine (refusal 33) h))
+      turned s _ (ap (λ (r : Moved). takenIn r s a) (take-refuses (s .sender) (s .message) a fine (refusal 33) h))
 
   pub refuses-other : {e : List ℕ} {o : Outcome} {a : List ℕ} → Plain e → Answers e o a → (tagOf (getD e 0 0) ≡ tagOf (getD d 0 0) → ⊥) → Turned ends terms sight s (ends .take s a)
   refuses-other {e} {o} {a} p h n =

@@ -6,7 +6,7 @@ use mathlib.Core.Option.{Option, none, some}
 use mathlib.Core.List.{List, [], _∷_}
 use lib.Dec.{eqb}
 use lib.ListN.{take}
-use Rattle.completer.specs.declared.tags.TagRecord.{TagRecord}
+use Rattle.tags.specs.declared.record.TagRecord.{TagRecord}
 use Rattle.completer.specs.Serving.{After, after}
 use Rattle.initiator.specs.declared.sender.Sender.{Sender}
 use Rattle.initiator.specs.declared.sender.Moved.{Moved}

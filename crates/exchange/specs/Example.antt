@@ -8,10 +8,10 @@ use mathlib.Core.Option.{some}
 use mathlib.Core.List.{List, [], _∷_}
 use lib.ListN.{replicate}
 use Rattle.word.specs.Words.{bytesOf}
-use Rattle.message.specs.declared.answer.Status.the-variants.{Ok}
-use Rattle.message.specs.Limits.{limit, limitBytes}
+use Rattle.header.specs.Limits.{limit, limitBytes}
 use Rattle.message.specs.Discovery.{discoveryBytes}
-use Rattle.completer.specs.Tags.{freshRecord}
+use Rattle.answer.specs.declared.Status.the-variants.{Ok}
+use Rattle.tags.specs.Record.{freshRecord}
 use Rattle.initiator.specs.declared.outcome.Ending.the-variants.{Ended}
 use Rattle.initiator.specs.Sender.{freshSender, startOf}
 use Rattle.once.specs.World.{Event, offer, send, arrive, back, other, message, stranger}

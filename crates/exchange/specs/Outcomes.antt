@@ -2,12 +2,12 @@
 use Prim.Native.Nat.{ℕ, zero, suc}
 use mathlib.Core.List.{List, [], _∷_}
 use lib.ListN.{getD}
-use Rattle.message.specs.declared.header.Kind.{Kind}
-use Rattle.message.specs.Header.{kindOf}
-use Rattle.message.specs.Request.{Reading, read}
-use Rattle.message.specs.Answer.{Answered}
-use Rattle.completer.specs.Carrying.{asked}
-use Rattle.completer.specs.Answers.{answerTo}
+use Rattle.header.specs.declared.Kind.{Kind}
+use Rattle.header.specs.Header.{kindOf}
+use Rattle.message.specs.Request.{Reading}
+use Rattle.message.specs.Walk.{read, asked}
+use Rattle.answer.specs.Answer.{Answered}
+use Rattle.carrying.specs.Answers.{answerTo}
 use Rattle.initiator.specs.declared.outcome.Ending.{Ending}
 use Rattle.initiator.specs.declared.outcome.Ending.the-variants.{Ended}
 use Rattle.initiator.specs.Outcome.{judgedBy, countIn, endingIn, dataIn, dataOf}

@@ -9,14 +9,15 @@ use mathlib.Core.Logic.{_⊎_}
 use mathlib.Core.Option.{some}
 use mathlib.Core.List.{List, _∷_, _++_}
 use lib.ListN.{length, getD, getElem?, take}
-use Rattle.message.specs.Header.{tagOf, kindOf}
+use Rattle.header.specs.Header.{tagOf, kindOf}
 use Rattle.message.specs.Request.{Command}
-use Rattle.message.specs.Answer.{Answered}
 use Rattle.message.specs.Discovery.{discoveryBytes}
-use Rattle.completer.specs.Answers.{failed}
-use Rattle.completer.specs.Carrying.{asked}
-use Rattle.completer.specs.Promises.{carried, AnsweredThen}
-use Rattle.completer.specs.Tags.{isFresh}
+use Rattle.message.specs.Walk.{asked}
+use Rattle.answer.specs.Answer.{Answered}
+use Rattle.memory.specs.Promises.{carried}
+use Rattle.carrying.specs.Answers.{failed}
+use Rattle.carrying.specs.Promises.{AnsweredThen}
+use Rattle.tags.specs.Record.{isFresh}
 use Rattle.initiator.specs.Sender.{freshSender, startOf}
 use Rattle.once.specs.World.{Event, World, finished}
 use Rattle.once.specs.Promise.{Ages, AllowedRun, after, made, results, Progress, Extends}

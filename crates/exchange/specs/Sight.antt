@@ -6,11 +6,11 @@ use mathlib.Core.Option.{Option, none, some}
 use mathlib.Core.List.{List}
 use lib.ListN.{getD, take}
 use Rattle.word.specs.Words.{bytesOf, Bytes}
-use Rattle.message.specs.Header.{tagOf, kindOf, discoveryOf}
-use Rattle.message.specs.Request.{Request, Means, read, Fits}
-use Rattle.message.specs.Answer.{Answered, encodeAnswer, FitsAnswer}
-use Rattle.completer.specs.Carrying.{asked}
-use Rattle.completer.specs.Tags.{isFresh}
+use Rattle.header.specs.Header.{tagOf, kindOf, discoveryOf}
+use Rattle.message.specs.Request.{Request, Means, Fits}
+use Rattle.message.specs.Walk.{read, asked}
+use Rattle.answer.specs.Answer.{Answered, encodeAnswer, FitsAnswer}
+use Rattle.tags.specs.Record.{isFresh}
 use Rattle.once.specs.Tags.{Sight}
 use Rattle.exchange.specs.Outcomes.{Outcome, resultsIn}
 use Rattle.exchange.specs.Ends.{Controller, Loader, ends}

@@ -5,13 +5,13 @@ use mathlib.Core.Bool.{true}
 use mathlib.Core.List.{List}
 use lib.ListN.{length}
 use Rattle.word.specs.Words.{Bytes, Words}
-use Rattle.message.specs.declared.header.Kind.the-variants.{Write}
-use Rattle.message.specs.Limits.{limit, limitBytes}
-use Rattle.message.specs.Header.{kindOf, discoveryOf}
-use Rattle.message.specs.Request.{Request, Reading, Wrong, Means, read}
-use Rattle.completer.specs.Moves.{memoryAfter}
-use Rattle.completer.specs.Carrying.{asked}
-use Rattle.completer.specs.Tags.{mostMemory, recordOk}
+use Rattle.header.specs.declared.Kind.the-variants.{Write}
+use Rattle.header.specs.Limits.{limit, limitBytes}
+use Rattle.header.specs.Header.{kindOf, discoveryOf}
+use Rattle.message.specs.Request.{Request, Reading, Wrong, Means}
+use Rattle.message.specs.Walk.{read, asked}
+use Rattle.memory.specs.Moves.{memoryAfter}
+use Rattle.tags.specs.Record.{mostMemory, recordOk}
 use Rattle.initiator.specs.Sender.{asksAs}
 use Rattle.once.specs.Promise.{Terms}
 use Rattle.exchange.specs.Outcomes.{outcomeOver}

@@ -1,11 +1,5 @@
--- What the contracts of the crate `initiator` cite: the loader's end of document 01.
-pub mod Building
-pub mod Asked
-pub mod Build
-pub mod Reach
-pub mod Sequence
-pub mod Discovery
+-- What the contracts of the crate `initiator` cite, and what is promised of the sender: Promises has no module.
+pub mod Asking
 pub mod Outcome
 pub mod Sender
 pub mod Promises
-pub mod BenchSheet

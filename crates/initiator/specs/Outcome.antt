@@ -1,24 +1,22 @@
 -- What an answer tells of its request. The contracts of `outcome` cite these. Assumes nothing.
-use Prim.Native.Nat.{ℕ, zero, suc, _+_, _-_, _*_, _≤_, _<_}
+use Prim.Native.Nat.{ℕ, zero, suc, _+_, _-_, _*_}
 use mathlib.Core.Path.{_≡_}
-use mathlib.Core.Bool.{Bool, true, false, cond}
+use mathlib.Core.Bool.{cond}
 use mathlib.Core.List.{List, [], _∷_}
 use lib.ListN.{length, getD, take, drop}
 use lib.Dec.{eqb}
-use Rattle.message.specs.declared.header.Kind.{Kind}
-use Rattle.message.specs.declared.header.Kind.the-variants.{Nop, Write, Read, Response}
-use Rattle.message.specs.declared.answer.Status.{Status}
-use Rattle.message.specs.declared.answer.Status.the-variants.{Ok, Timeout, Error}
-use Rattle.message.specs.declared.refusal.Refusal.{Refusal}
-use Rattle.message.specs.Header.{kindOf, discoveryOf, countOf, lastOf}
-use Rattle.message.specs.declared.walk.Walked.{Walked}
-use Rattle.message.specs.declared.walk.Walked.the-variants.{WellFormed, Malformed}
-use Rattle.message.specs.Walk.{refusedAt, refusal}
-use Rattle.message.specs.Request.{Request, Reading, Wrong, Means, refusalIn, read}
-use Rattle.message.specs.declared.answer.Look.{Look}
-use Rattle.message.specs.declared.answer.Look.the-variants.{Item, Bad}
 use Rattle.word.specs.Words.{Bytes, bytesOf}
-use Rattle.message.specs.Answer.{Answered, judge, lookAt, answersFrom}
+use Rattle.header.specs.declared.Kind.{Kind}
+use Rattle.header.specs.declared.Kind.the-variants.{Nop, Write, Read, Response}
+use Rattle.header.specs.declared.refusal.Refusal.{Refusal}
+use Rattle.header.specs.Header.{kindOf, discoveryOf, countOf, lastOf}
+use Rattle.header.specs.Refusal.{refusedAt, refusal}
+use Rattle.message.specs.Request.{Request, Reading, Wrong, Means, refusalIn}
+use Rattle.message.specs.Walk.{read}
+use Rattle.answer.specs.declared.Status.{Status}
+use Rattle.answer.specs.declared.Status.the-variants.{Ok, Timeout, Error}
+use Rattle.answer.specs.declared.Look.{Look}
+use Rattle.answer.specs.Answer.{Answered, judge, lookAt, answersFrom}
 use Rattle.initiator.specs.declared.outcome.Ending.{Ending}
 use Rattle.initiator.specs.declared.outcome.Ending.the-variants.{Absent, Ended}
 use Rattle.initiator.specs.declared.outcome.Outcome.{Outcome}
@@ -114,16 +112,6 @@ outcomeOf request answer k = toldOf (kindOf (getD request 0 0)) k (judgedBy (rea
 -- what a refused answer tells
 abbrev pub refusedWith : Refusal → Outcome
 refusedWith r = record { refusal = r; count = 0; ending = Absent; start = 0; end = 0 }
-
--- the refusal of a look that refused
-abbrev pub badOf : Look → Refusal
-badOf (Item s) = refusal 0
-badOf (Bad r) = r
-
--- 31 for a request that the walk refused
-abbrev pub malformedBy : Walked → Refusal
-malformedBy (WellFormed n) = refusal 31
-malformedBy (Malformed r) = refusedAt 31 (r .at)
 
 -- what was told so far, with the answer whose header stands at word `at`
 unfoldable pub withItem : Outcome → ℕ → Kind → ℕ → Status → ℕ → Outcome

@@ -1,18 +1,20 @@
 -- What is promised of the sender, in other words than its definitions. The proofs are in proofs/Laws/Promised.antt. Assumes nothing.
-use Prim.Native.Nat.{ℕ, _+_, _%_, _<_}
+use Prim.Native.Nat.{ℕ, _<_}
 use mathlib.Core.Path.{_≡_}
 use mathlib.Core.Bool.{true, false}
 use mathlib.Core.List.{List}
 use lib.ListN.{getD}
-use Rattle.message.specs.declared.refusal.Refusal.{Refusal}
-use Rattle.message.specs.Header.{tagOf, discoveryOf}
-use Rattle.message.specs.Walk.{refusedAt}
-use Rattle.message.specs.Request.{Request, Wrong, Means, read, Fits}
-use Rattle.message.specs.Answer.{Answered, judge, encodeAnswer, FitsAnswer}
+use Rattle.header.specs.declared.refusal.Refusal.{Refusal}
+use Rattle.header.specs.Header.{tagOf, discoveryOf, nextTag}
+use Rattle.header.specs.Refusal.{refusedAt}
+use Rattle.message.specs.Request.{Request, Wrong, Means, Fits}
+use Rattle.message.specs.Walk.{read}
+use Rattle.message.specs.Discovery.{discoveryRequest}
+use Rattle.answer.specs.Answer.{Answered, judge, encodeAnswer, FitsAnswer}
 use Rattle.initiator.specs.declared.sender.Sender.{Sender}
 use Rattle.initiator.specs.declared.sender.Moved.{Moved}
 use Rattle.initiator.specs.Outcome.{judgedBy, outcomeOf}
-use Rattle.initiator.specs.Sender.{sendFault, offerOf, takeOf, discoveryRequest, startOf}
+use Rattle.initiator.specs.Sender.{sendFault, offerOf, takeOf, startOf}
 
 -- a refusal leaves the sender as it was
 abbrev pub KeepsRefused : Sender → Moved → Type 0
@@ -21,7 +23,7 @@ KeepsRefused s moved = (moved .refusal .number ≡ 0 → ⊥) → moved .sender 
 -- what an accepted answer is and does
 pub record Accepted (s : Sender) (message answer : List ℕ) : Type 0 where
   -- it moves the next tag by one modulo 16 and ends the waiting
-  pub next : takeOf s message answer .sender .next ≡ (s .next + 1) % 16
+  pub next : takeOf s message answer .sender .next ≡ nextTag (s .next)
   pub waits : takeOf s message answer .sender .waits ≡ false
   -- it has the message's tag, and is no answer to a discovery
   pub tag : tagOf (getD answer 0 0) ≡ tagOf (getD message 0 0)

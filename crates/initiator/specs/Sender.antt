@@ -1,18 +1,18 @@
 -- The sender: made fresh or from a discovery's answer; offering, sending, taking an answer. Assumes nothing.
-use Prim.Native.Nat.{ℕ, _+_, _%_}
+use Prim.Native.Nat.{ℕ}
 use mathlib.Core.Bool.{Bool, true, false, not, cond}
 use mathlib.Core.List.{List, [], _∷_}
 use lib.ListN.{getD}
 use lib.Dec.{ltb, eqb}
-use Rattle.message.specs.declared.answer.Status.{Status}
-use Rattle.message.specs.declared.answer.Status.the-variants.{Ok, Timeout, Error}
-use Rattle.message.specs.declared.refusal.Refusal.{Refusal}
-use Rattle.message.specs.declared.header.Kind.the-variants.{Nop}
-use Rattle.message.specs.Header.{tagOf, discoveryOf, byte0From}
-use Rattle.message.specs.Walk.{refusedAt, refusal, unless}
-use Rattle.message.specs.Request.{Command, Request, Reading, Wrong, Means, refusalIn, read}
-use Rattle.message.specs.Answer.{Answered, judge}
-use Rattle.message.specs.Discovery.{discoveryData}
+use Rattle.header.specs.declared.refusal.Refusal.{Refusal}
+use Rattle.header.specs.Header.{tagOf, discoveryOf, nextTag}
+use Rattle.header.specs.Refusal.{refusedAt, refusal, unless}
+use Rattle.message.specs.Request.{Request, Reading, Wrong, Means, refusalIn}
+use Rattle.message.specs.Walk.{read}
+use Rattle.message.specs.Discovery.{discoveryRequest}
+use Rattle.answer.specs.declared.Status.{Status}
+use Rattle.answer.specs.declared.Status.the-variants.{Ok, Timeout, Error}
+use Rattle.answer.specs.Answer.{Answered, judge}
 use Rattle.initiator.specs.declared.sender.Sender.{Sender}
 use Rattle.initiator.specs.declared.sender.Moved.{Moved}
 use Rattle.initiator.specs.Outcome.{judgedBy}
@@ -59,22 +59,12 @@ sendOf s message = cond (eqb (sendFault s message .number) 0) message []
 -- "An accepted answer ends it, also when a command failed; .. and the next tag is one more, modulo 16"
 abbrev pub takenBy : Sender → Reading (List Answered) → Moved
 takenBy s (Wrong r) = record { refusal = r; sender = s }
-takenBy s (Means items) = record { refusal = refusal 0; sender = record { next = (s .next + 1) % 16; waits = false } }
+takenBy s (Means items) = record { refusal = refusal 0; sender = record { next = nextTag (s .next); waits = false } }
 
 -- taking: 37, 30, 31, then 32 to 35
 unfoldable pub takeOf : Sender → List ℕ → List ℕ → Moved
 takeOf s message answer =
     cond (eqb (sendFault s message .number) 0) (takenBy s (judgedBy (read message) answer)) (record { refusal = sendFault s message; sender = s })
-
--- "the fixed discovery": a NOP of two words, the most bytes of a message and 0
-unfoldable pub discoveryByte : ℕ
-discoveryByte = byte0From 0 Nop false true
-
-abbrev pub discoveryCommand : Command
-discoveryCommand = record { byte1 = 0; count = 2; address = 0; payload = discoveryData }
-
-abbrev pub discoveryRequest : Request
-discoveryRequest = record { byte0 = discoveryByte; commands = discoveryCommand ∷ [] }
 
 -- not "word 1 has bits above 4 set, or bit 4 clear and a tag nonzero"
 unfoldable pub wordOk : ℕ → Bool
@@ -82,7 +72,7 @@ wordOk w = cond (ltb w 16) (eqb w 0) (ltb w 32)
 
 -- "word 1 gives the next tag, stored plus 1 modulo 16, or 0 if none"
 unfoldable pub nextAfter : ℕ → ℕ
-nextAfter w = cond (ltb w 16) 0 ((w + 1) % 16)
+nextAfter w = cond (ltb w 16) 0 (nextTag (tagOf w))
 
 -- what a refused discovery hands back: 37 stops whoever goes on with it
 abbrev pub spoiled : Refusal → Moved

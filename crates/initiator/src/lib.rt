@@ -1,11 +1,6 @@
-// The loader's end: a message is built in a lent output by `build::begin`, `build::add` and `build::close`; a sender offers it, sends
-// it any number of times and takes its answer (`sender`); what the answer tells is in `outcome`.
+// The loader's end: the sender, and what an answer tells of its request.
 //
 // The contracts cite specs/: one short definition for each sentence of document 01, in the file named after the module.
-pub mod asked;
-pub mod build;
-pub mod building;
-pub mod discovery;
+pub mod asking;
 pub mod outcome;
-pub mod refusals;
 pub mod sender;

@@ -1,21 +1,21 @@
 // What an answer tells of its request: whether it is refused, how many commands were answered, how each ended, and where the data
 // of a read stand in the answer's own bytes. No sender record is looked at, so it serves after the answer was accepted too.
 ghost use mathlib.Core.Path.{_≡_};
-ghost use Prim.Native.Nat.{_+_, _-_, _*_, _<_, _≤_};
-ghost use lib.ListN.{length, getD, take, drop};
+ghost use Prim.Native.Nat.{_+_, _*_, _<_, _≤_};
+ghost use lib.ListN.{length, getD};
 ghost use Rattle.word.specs.Words.{wordsOf};
-ghost use Rattle.message.specs.Limits.{limit, limitBytes};
-ghost use Rattle.message.specs.Header.{kindOf, countOf, bodyWords};
-ghost use Rattle.message.specs.Request.{read};
-ghost use Rattle.initiator.specs.Outcome.{refusedWith, badOf, malformedBy, spanOf, partOf, withItem, lookBeside, Ready, toldOf, answersTo, judgedBy, countIn, endingIn, partIn, outcomeOf, ReadData};
-use crate::refusals;
-use message::answer;
-use message::answer::Look;
-use message::answer::Seen;
-use message::answer::Status;
-use message::header;
-use message::header::Kind;
-use message::refusal::Refusal;
+ghost use Rattle.header.specs.Limits.{limit, limitBytes};
+ghost use Rattle.header.specs.Header.{kindOf, countOf, bodyWords};
+ghost use Rattle.message.specs.Walk.{read};
+ghost use Rattle.initiator.specs.Outcome.{refusedWith, spanOf, partOf, withItem, lookBeside, Ready, toldOf, answersTo, judgedBy, countIn, endingIn, partIn, outcomeOf, ReadData};
+use crate::asking;
+use answer::Look;
+use answer::Seen;
+use answer::Status;
+use header::Kind;
+use header::limits;
+use header::refusal::Refusal;
+use message::walk;
 use message::walk::Walked;
 
 // How a command ended: it was not answered, or with a status.
@@ -44,32 +44,6 @@ fn refused(refusal: Refusal) -> Outcome
         ending: Ending::Absent,
         start: 0,
         end: 0,
-    }
-}
-
-// The refusal that a look at an answer's header gave.
-pub fn refusal_of(look: Look) -> Refusal
-    ensures { λ r. ⌜ r ≡ badOf look ⌝ }
-{
-    match look {
-        Look::Item(_) => Refusal { number: 0, at: 0 },
-        Look::Bad(refusal) => refusal,
-    }
-}
-
-// 31 for a request that the walk refused, at the header that it refused.
-pub fn malformed(walked: Walked) -> Refusal
-    ensures { λ r. ⌜ r ≡ malformedBy walked ⌝ }
-{
-    match walked {
-        Walked::WellFormed(_) => Refusal {
-            number: refusals::REQUEST,
-            at: 0,
-        },
-        Walked::Malformed(refusal) => Refusal {
-            number: refusals::REQUEST,
-            at: refusal.at,
-        },
     }
 }
 
@@ -163,7 +137,7 @@ fn look_through(request: &[u8], answer: &[u8], byte0: u32, k: usize) -> Outcome
     loop {
         let look = look_beside(request, answer, byte0, at, back);
         let Look::Item(seen) = look else {
-            return refused(refusal_of(look));
+            return refused(answer::refusal_of(look));
         };
         told = with_item(told, k, byte0, back, seen);
         if seen.last {
@@ -178,18 +152,18 @@ fn look_through(request: &[u8], answer: &[u8], byte0: u32, k: usize) -> Outcome
 pub fn told(request: &[u8], answer: &[u8], k: usize) -> Outcome
     ensures { λ r. ⌜ r ≡ outcomeOf (now (request .entry)) (now (answer .entry)) k ⌝ }
 {
-    let walked = message::walk::walk(request);
+    let walked = walk::walk(request);
     let Walked::WellFormed(_) = walked else {
-        return refused(malformed(walked));
+        return refused(asking::malformed(walked));
     };
     let byte0 = word::wide(request[0]);
     if header::discovery(byte0) {
         return refused(Refusal {
-            number: refusals::REQUEST,
+            number: Refusal::REQUEST,
             at: 0,
         });
     }
-    if !message::walk::length_ok(answer.len()) {
+    if !limits::length_ok(answer.len()) {
         return refused(Refusal {
             number: Refusal::ANSWER_LENGTH,
             at: 0,
@@ -197,7 +171,7 @@ pub fn told(request: &[u8], answer: &[u8], k: usize) -> Outcome
     }
     if word::wide(answer[0]) != answer::answer_byte(byte0) {
         return refused(Refusal {
-            number: Refusal::ANSWER_BYTE0,
+            number: Refusal::ANSWER_BYTE_0,
             at: 0,
         });
     }

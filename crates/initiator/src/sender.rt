@@ -2,16 +2,16 @@
 // answer ends it. Every call takes any record, any message, any answer, and refuses by number.
 ghost use mathlib.Core.Path.{_≡_};
 ghost use Prim.Native.Nat.{_<_};
-ghost use Rattle.message.specs.Request.{read};
+ghost use Rattle.message.specs.Walk.{read};
 ghost use Rattle.initiator.specs.Sender.{freshSender, askFault, offerFault, sendFault, offerOf, sendOf, takeOf, spoiled, wordOk, nextAfter, startedAt, startOf};
+use crate::asking;
 use crate::outcome;
-use crate::refusals;
-use message::answer;
-use message::answer::Look;
-use message::answer::Status;
-use message::header;
-use message::header::Kind;
-use message::refusal::Refusal;
+use answer::Look;
+use answer::Status;
+use header::Kind;
+use header::limits;
+use header::refusal::Refusal;
+use message::walk;
 use message::walk::Walked;
 
 // The next tag, and whether a message waits.
@@ -44,7 +44,7 @@ impl Sender {
         ensures { λ r. ⌜ r ≡ startOf (now (answer .entry)) ⌝ }
     {
         let byte0 = header::byte0_from(0, Kind::Nop, false, true);
-        if !message::walk::length_ok(answer.len()) {
+        if !limits::length_ok(answer.len()) {
             return spoilt(Refusal {
                 number: Refusal::ANSWER_LENGTH,
                 at: 0,
@@ -52,23 +52,23 @@ impl Sender {
         }
         if word::wide(answer[0]) != answer::answer_byte(byte0) {
             return spoilt(Refusal {
-                number: Refusal::ANSWER_BYTE0,
+                number: Refusal::ANSWER_BYTE_0,
                 at: 0,
             });
         }
         let look = answer::look_at(byte0, 2, true, answer, 0);
         let Look::Item(seen) = look else {
-            return spoilt(outcome::refusal_of(look));
+            return spoilt(answer::refusal_of(look));
         };
         let status = seen.status;
         match status {
             Status::Ok => started(word::word_at(answer, 2)),
             Status::Timeout => spoilt(Refusal {
-                number: refusals::DISCOVERY,
+                number: Refusal::DISCOVERY,
                 at: 0,
             }),
             Status::Error => spoilt(Refusal {
-                number: refusals::DISCOVERY,
+                number: Refusal::DISCOVERY,
                 at: 0,
             }),
         }
@@ -105,7 +105,7 @@ fn next_after(w: u32) -> u32
 {
     match w {
         0..=15 => 0,
-        _ => (w + 1) % 16,
+        _ => header::next_tag(header::tag(w)),
     }
 }
 
@@ -115,7 +115,7 @@ fn started(w: u32) -> Moved
 {
     if !word_ok(w) {
         return spoilt(Refusal {
-            number: refusals::DISCOVERY,
+            number: Refusal::DISCOVERY,
             at: 0,
         });
     }
@@ -133,20 +133,20 @@ fn started(w: u32) -> Moved
 fn ask_refusal(next: u32, message: &[u8]) -> Refusal
     ensures { λ r. ⌜ r ≡ askFault next (read (now (message .entry))) ⌝ }
 {
-    let walked = message::walk::walk(message);
+    let walked = walk::walk(message);
     let Walked::WellFormed(_) = walked else {
-        return outcome::malformed(walked);
+        return asking::malformed(walked);
     };
     let byte0 = word::wide(message[0]);
     if header::discovery(byte0) {
         return Refusal {
-            number: refusals::REQUEST,
+            number: Refusal::REQUEST,
             at: 0,
         };
     }
     if header::tag(byte0) != next {
         return Refusal {
-            number: refusals::REQUEST,
+            number: Refusal::REQUEST,
             at: 0,
         };
     }
@@ -159,13 +159,13 @@ fn offer_refusal(sender: Sender, message: &[u8]) -> Refusal
 {
     if 16 <= sender.next {
         return Refusal {
-            number: refusals::RECORD,
+            number: Refusal::NEXT_TAG,
             at: 0,
         };
     }
     if sender.waits {
         return Refusal {
-            number: refusals::ONE_WAITS,
+            number: Refusal::ONE_WAITS,
             at: 0,
         };
     }
@@ -195,13 +195,13 @@ pub fn send_refusal(sender: Sender, message: &[u8]) -> Refusal
 {
     if 16 <= sender.next {
         return Refusal {
-            number: refusals::RECORD,
+            number: Refusal::NEXT_TAG,
             at: 0,
         };
     }
     if !sender.waits {
         return Refusal {
-            number: refusals::NONE_WAITS,
+            number: Refusal::NONE_WAITS,
             at: 0,
         };
     }
@@ -236,7 +236,7 @@ pub fn take(sender: Sender, message: &[u8], answer: &[u8]) -> Moved
     Moved {
         refusal,
         sender: Sender {
-            next: (sender.next + 1) % 16,
+            next: header::next_tag(sender.next),
             waits: false,
         },
     }

@@ -1,3 +1,4 @@
--- What the contracts of the crate `loader` cite beside `initiator`'s own: the forms that C can take.
+-- What the contracts of the crate `loader` cite beside those of `building` and `initiator`: the forms that C can take. Its module `build`
+-- has no file here: it hands on.
 pub mod Sending
 pub mod Outcome

@@ -2,9 +2,9 @@
 use Prim.Native.Nat.{ℕ, _-_}
 use mathlib.Core.List.{List}
 use lib.ListN.{getD}
-use Rattle.message.specs.Header.{kindOf}
-use Rattle.message.specs.Request.{read}
-use Rattle.message.specs.Answer.{codeOf}
+use Rattle.header.specs.Header.{kindOf}
+use Rattle.message.specs.Walk.{read}
+use Rattle.answer.specs.Answer.{codeOf}
 use Rattle.initiator.specs.declared.outcome.Ending.{Ending}
 use Rattle.initiator.specs.declared.outcome.Ending.the-variants.{Absent, Ended}
 use Rattle.initiator.specs.declared.outcome.Span.{Span}

@@ -1,6 +1,6 @@
 -- What sending comes to, and the fixed discovery, as C takes them. Assumes nothing.
-use mathlib.Core.List.{List}
 use Prim.Native.Nat.{ℕ}
+use mathlib.Core.List.{List}
 use lib.ListN.{length}
 use Rattle.message.specs.Discovery.{discoveryBytes}
 use Rattle.initiator.specs.declared.sender.Sender.{Sender}

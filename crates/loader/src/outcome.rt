@@ -4,12 +4,11 @@
 ghost use mathlib.Core.Path.{_≡_};
 ghost use Prim.Native.Nat.{_+_, _≤_};
 ghost use lib.ListN.{length};
-ghost use Rattle.message.specs.Request.{read};
+ghost use Rattle.message.specs.Walk.{read};
 ghost use Rattle.initiator.specs.Outcome.{judgedBy, countIn};
 ghost use Rattle.loader.specs.Outcome.{endingNo, statusNumber, dataPart};
 use initiator::outcome;
 use initiator::outcome::Ending;
-use message::answer;
 
 // The number that is no status: of a command that was not answered.
 pub const ABSENT: u32 = 3;

@@ -2,10 +2,11 @@
 ghost use mathlib.Core.Path.{_≡_};
 ghost use Rattle.initiator.specs.Sender.{freshSender, startOf, offerOf, takeOf};
 ghost use Rattle.loader.specs.Sending.{sendingOf, fixedDiscovery};
+use header::refusal::Refusal;
 use initiator::sender;
 use initiator::sender::Moved;
 use initiator::sender::Sender;
-use message::refusal::Refusal;
+use message::discovery;
 
 // What sending comes to: its refusal (number 0: none), and how many bytes go out, all of them the message's own.
 #[repr(C)]
@@ -26,7 +27,7 @@ pub extern "C" fn charkhavo_discovery() -> Discovery
     ensures { λ r. ⌜ r ≡ fixedDiscovery ⌝ }
 {
     Discovery {
-        bytes: initiator::discovery::bytes(),
+        bytes: discovery::bytes(),
     }
 }
 

@@ -1,15 +1,11 @@
--- Laws of messages that belong to no one function; the crates above cite them.
-pub mod Headers
-pub mod Faults
-pub mod Round
+-- Laws of the crate `message` that belong to no one function; the crates above cite them.
+pub mod Addresses
 pub mod Back
 pub mod Exactly
-pub mod Standing
+pub mod Faults
+pub mod Fixed
 pub mod Going
 pub mod Pieces
-pub mod Answers
-pub mod Judged
-pub mod Looking
-pub mod Judging
-pub mod Answering
+pub mod Round
+pub mod Standing
 pub mod Worked

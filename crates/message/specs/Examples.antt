@@ -1,16 +1,17 @@
 -- Worked and hostile examples, from bytes, with the refusal that each must get. `proofs/Laws/Worked.antt` computes them. Assumes nothing.
 use Prim.Native.Nat.{ℕ, zero, suc, _+_}
 use mathlib.Core.Path.{_≡_}
-use mathlib.Core.Bool.{Bool, true, false, _&&_}
+use mathlib.Core.Bool.{Bool, true, _&&_}
 use mathlib.Core.List.{List, [], _∷_}
 use lib.Dec.{eqb}
 use Rattle.word.specs.Words.{bytesOf}
-use Rattle.message.specs.declared.header.Kind.the-variants.{Write}
-use Rattle.message.specs.declared.refusal.Refusal.{Refusal}
-use Rattle.message.specs.Header.{bit}
-use Rattle.message.specs.Walk.{refusedAt, refusal, enablesOk}
-use Rattle.message.specs.Request.{Request, Reading, Wrong, Means, refusalIn, lengthOk, read}
-use Rattle.message.specs.Answer.{Answered, judge}
+use Rattle.header.specs.declared.Kind.the-variants.{Write}
+use Rattle.header.specs.declared.refusal.Refusal.{Refusal}
+use Rattle.header.specs.Header.{bit}
+use Rattle.header.specs.Refusal.{refusedAt, refusal}
+use Rattle.message.specs.Faults.{enablesOk}
+use Rattle.message.specs.Request.{refusalIn}
+use Rattle.message.specs.Walk.{read}
 use Rattle.message.specs.Discovery.{discoveryBytes}
 
 -- two refusals of the same number and the same index
@@ -140,78 +141,9 @@ patterns (suc n) count address = bit (enablesOk Write count address n) + pattern
 abbrev pub PatternsCounted : Type 0
 PatternsCounted = (patterns 256 1 12 ≡ 16) × (patterns 256 2 8 ≡ 225) × (patterns 256 2 12 ≡ 16) × (patterns 256 3 8 ≡ 16)
 
--- [6] "8,972 bytes": so many are let by, a word more is not; and "the fixed discovery 80020080 0000230C 00000000"
-abbrev pub LimitShown : Type 0
-LimitShown = (lengthOk 8972 ≡ true) × (lengthOk 8976 ≡ false) × (discoveryBytes ≡ bytesOf (0x80020080 ∷ 0x0000230C ∷ 0x00000000 ∷ []))
-
--- an answer to a request, and the refusal that it gets: at word 0, or at a later one
-pub record AnswerExample : Type 0 where
-  pub request : List ℕ
-  pub answer : List ℕ
-  pub given : Refusal
-
-abbrev pub reply : List ℕ → List ℕ → ℕ → AnswerExample
-reply ws vs n = record { request = bytesOf ws; answer = bytesOf vs; given = refusal n }
-
-abbrev pub replyAt : List ℕ → List ℕ → ℕ → ℕ → AnswerExample
-replyAt ws vs n at = record { request = bytesOf ws; answer = bytesOf vs; given = refusedAt n at }
-
--- a read of one word, a write of one word, two writes, and two reads
-abbrev pub oneRead : List ℕ
-oneRead = 0x80010023 ∷ 0x00000010 ∷ []
-
-abbrev pub oneWrite : List ℕ
-oneWrite = 0x80010F13 ∷ 0x00000004 ∷ 0xFEEDC0DE ∷ []
-
-abbrev pub twoWrites : List ℕ
-twoWrites = 0x00010F13 ∷ 0x00000000 ∷ 0x11111111 ∷ 0x80010F13 ∷ 0x00000004 ∷ 0x22222222 ∷ []
-
-abbrev pub twoReads : List ℕ
-twoReads = 0x00010023 ∷ 0x00000010 ∷ 0x80010023 ∷ 0x00000014 ∷ []
-
-unfoldable pub answers : List AnswerExample
-answers =
-    reply oneRead (0x80010033 ∷ 0xF00DFACE ∷ []) 0
-    ∷ reply oneRead (0x80000233 ∷ []) 0
-    ∷ reply oneWrite (0x80000033 ∷ []) 0
-    ∷ reply oneWrite (0x80000133 ∷ []) 0
-    ∷ reply twoWrites (0x00000033 ∷ 0x80000033 ∷ []) 0
-    ∷ reply twoWrites (0x80000233 ∷ []) 0
-    ∷ reply twoWrites (0x00000033 ∷ 0x80000233 ∷ []) 0
-    -- no bytes; another tag, discovery; a request in its place
-    ∷ reply oneRead [] 32
-    ∷ reply oneRead (0x80010032 ∷ 0xF00DFACE ∷ []) 33
-    ∷ reply oneRead (0x800100B3 ∷ 0xF00DFACE ∷ []) 33
-    ∷ reply oneRead oneRead 33
-    -- a later byte 0; a reserved bit; bits 15:12; status 3; counts
-    ∷ replyAt twoWrites (0x00000033 ∷ 0x80000032 ∷ []) 34 1
-    ∷ reply oneWrite (0x90000033 ∷ []) 34
-    ∷ reply oneWrite (0x80001033 ∷ []) 34
-    ∷ reply oneWrite (0x80000333 ∷ []) 34
-    ∷ reply oneRead (0x80000033 ∷ []) 34
-    ∷ reply oneWrite (0x80010033 ∷ 0x00000000 ∷ []) 34
-    ∷ reply oneRead (0x80010233 ∷ 0xF00DFACE ∷ []) 34
-    -- a body past the end; no word there; LAST missing, early, on no Error; words after it
-    ∷ reply oneRead (0x80010033 ∷ []) 35
-    ∷ replyAt twoWrites (0x00000033 ∷ []) 35 1
-    ∷ reply oneWrite (0x00000033 ∷ []) 35
-    ∷ reply twoWrites (0x80000033 ∷ 0x80000033 ∷ []) 35
-    ∷ reply twoWrites (0x00000233 ∷ 0x80000033 ∷ []) 35
-    ∷ reply oneWrite (0x80000033 ∷ 0x00000000 ∷ []) 35
-    -- at a later header: status 3; no word there; a body past the end; LAST missing; words after it
-    ∷ replyAt twoReads (0x00010033 ∷ 0xF00DFACE ∷ 0x80010333 ∷ 0xF00DFACE ∷ []) 34 2
-    ∷ replyAt twoReads (0x00010033 ∷ 0xF00DFACE ∷ []) 35 2
-    ∷ replyAt twoReads (0x00010033 ∷ 0xF00DFACE ∷ 0x80010033 ∷ []) 35 2
-    ∷ replyAt twoReads (0x00010033 ∷ 0xF00DFACE ∷ 0x00010033 ∷ 0xF00DFACE ∷ []) 35 2
-    ∷ replyAt twoReads (0x00010033 ∷ 0xF00DFACE ∷ 0x80010033 ∷ 0xF00DFACE ∷ 0x00000000 ∷ []) 35 2
-    ∷ []
-
-abbrev pub judged : Reading Request → List ℕ → Refusal
-judged (Wrong r) dg = refusedAt 31 (r .at)
-judged (Means r) dg = refusalIn (judge r dg)
-
-abbrev pub rightAnswer : AnswerExample → Bool
-rightAnswer e = sameRefusal (judged (read (e .request)) (e .answer)) (e .given)
+-- [6] "the fixed discovery 80020080 0000230C 00000000"
+abbrev pub DiscoveryShown : Type 0
+DiscoveryShown = discoveryBytes ≡ bytesOf (0x80020080 ∷ 0x0000230C ∷ 0x00000000 ∷ [])
 
 abbrev pub every : {A : Type 0} → (A → Bool) → List A → Bool
 every f [] = true

@@ -1,94 +1,92 @@
--- One step of the walk: "at each header 3 (no word there), 4 to 8, 3 (body past the end), 9", but "where a write's address words are
--- missing, 3 comes before 8". Assumes nothing.
-use Prim.Native.Nat.{ℕ, _%_}
-use mathlib.Core.Bool.{Bool, true, false, not, cond, _&&_, _||_}
+-- What any bytes mean, or their refusal: one step of the walk, the walk, and what the function `walk` tells of it. "Then the commands
+-- are walked, at each header 3 (no word there), 4 to 8, 3 (body past the end), 9. Then 10". Assumes nothing.
+use Prim.Native.Nat.{ℕ, zero, suc, _+_, _-_}
+use mathlib.Core.Bool.{cond}
+use mathlib.Core.List.{List, [], _∷_}
+use lib.ListN.{length, getD, take, drop}
 use lib.Dec.{ltb, leb, eqb}
-use Rattle.message.specs.declared.header.Kind.{Kind}
-use Rattle.message.specs.declared.header.Kind.the-variants.{Nop, Write, Read as Reads, Response}
-use Rattle.message.specs.declared.header.Head.{Head}
-use Rattle.message.specs.declared.refusal.Refusal.{Refusal}
+use Rattle.word.specs.Words.{wordsOf}
+use Rattle.header.specs.declared.refusal.Refusal.{Refusal}
+use Rattle.header.specs.Limits.{limit, lengthOk}
+use Rattle.header.specs.Header.{kindOf, byte1Of, countOf, addressWords, dataWords, headOf}
+use Rattle.header.specs.Refusal.{refusedAt, refusal}
 use Rattle.message.specs.declared.walk.Step.{Step}
 use Rattle.message.specs.declared.walk.Step.the-variants.{Read, Refused}
-use Rattle.message.specs.Header.{kindOf, byte0Of, byte1Of, firstOf, finalOf, countOf, reservedOf, lastOf, addressWords, bodyWords, headOf}
-
--- "refusals .. give the index, from 0, of the header word being looked at": number n of the table, at word `at`
-abbrev pub refusedAt : ℕ → ℕ → Refusal
-refusedAt n at = record { number = n; at = at }
-
--- "All others .. give 0"
-abbrev pub refusal : ℕ → Refusal
-refusal n = refusedAt n 0
-
--- a request's kind: every one but "3 response"
-abbrev pub asks : Kind → Bool
-asks Nop = true
-asks Write = true
-asks Reads = true
-asks Response = false
-
--- "Count is 1 to 4,095 for writes and reads, 0 to 2 for NOPs"
-abbrev pub countOk : Kind → ℕ → Bool
-countOk Nop count = leb count 2
-countOk Write count = leb 1 count
-countOk Reads count = leb 1 count
-countOk Response count = false
-
--- "with count 1 the last field is 0 and the first is anything; with count 2 or more both are nonzero"
-abbrev pub zerosOk : ℕ → ℕ → ℕ → Bool
-zerosOk count first final = cond (eqb count 1) (eqb final 0) (not (eqb first 0) && not (eqb final 0))
-
--- "Gaps inside the enables are allowed only for count 1, and for count 2 at an address that is a multiple of 8"
-abbrev pub gapsOk : ℕ → ℕ → Bool
-gapsOk count address = eqb count 1 || eqb count 2 && eqb (address % 8) 0
-
--- "Every other write must have a first field of F, E, C or 8 and a last field of F, 7, 3 or 1"
-abbrev pub firstOk : ℕ → Bool
-firstOk first = eqb first 0xF || eqb first 0xE || eqb first 0xC || eqb first 0x8
-
-abbrev pub finalOk : ℕ → Bool
-finalOk final = eqb final 0xF || eqb final 0x7 || eqb final 0x3 || eqb final 0x1
-
-abbrev pub gapless : ℕ → ℕ → Bool
-gapless first final = firstOk first && finalOk final
-
--- the enables that a write of this count at this address may have: both rules hold
-unfoldable pub patternOk : ℕ → ℕ → ℕ → ℕ → Bool
-patternOk count address first final = zerosOk count first final && (gapsOk count address || gapless first final)
-
--- "Byte enables, writes only"; "Byte 1 of reads and NOPs is not looked at"
-abbrev pub enablesOk : Kind → ℕ → ℕ → ℕ → Bool
-enablesOk Nop count address byte1 = true
-enablesOk Write count address byte1 = patternOk count address (firstOf byte1) (finalOf byte1)
-enablesOk Reads count address byte1 = true
-enablesOk Response count address byte1 = true
-
--- "LAST stands on the final header only": nothing follows the body of a LAST command
-abbrev pub endsOk : Bool → ℕ → ℕ → Bool
-endsOk last body left = cond last (eqb left body) true
-
--- the number or the refusal r, unless all is well so far: then what the next check says
-abbrev pub unless : {A : Type 0} → Bool → A → A → A
-unless ok r next = cond ok next r
-
--- the first fault, in the document's order, of a header h with `left` words after it and this address, in a message of this byte 0;
--- 0 where it has none
-unfoldable pub faultOf : ℕ → ℕ → ℕ → ℕ → ℕ
-faultOf byte0 h left address =
-    unless (eqb (byte0Of h) byte0) 4
-    (unless (asks (kindOf byte0)) 5
-    (unless (eqb (reservedOf h) 0) 6
-    (unless (countOk (kindOf byte0) (countOf h)) 7
-    (unless (leb (addressWords byte0) left) 3
-    (unless (enablesOk (kindOf byte0) (countOf h) address (byte1Of h)) 8
-    (unless (leb (bodyWords byte0 (countOf h)) left) 3
-    (unless (endsOk (lastOf h) (bodyWords byte0 (countOf h)) left) 9 0)))))))
+use Rattle.message.specs.declared.walk.Walked.{Walked}
+use Rattle.message.specs.declared.walk.Walked.the-variants.{WellFormed, Malformed}
+use Rattle.message.specs.Faults.{faultOf}
+use Rattle.message.specs.Request.{Command, Request, Reading, before, replies, Wrong, Means}
+use Rattle.message.specs.Address.{addressFrom}
 
 -- the header at word `at` as it was read, or its refusal
 unfoldable pub stepOn : ℕ → ℕ → ℕ → ℕ → ℕ → Step
 stepOn byte0 at h left address =
     cond (eqb (faultOf byte0 h left address) 0) (Read (headOf byte0 h)) (Refused (refusedAt (faultOf byte0 h left address) at))
 
+-- the command of the header h and the words that follow it
+unfoldable pub commandOf : ℕ → ℕ → List ℕ → Command
+commandOf byte0 h rest =
+    record {
+      byte1 = byte1Of h;
+      count = countOf h;
+      address = addressFrom (addressWords byte0) rest;
+      payload = take (dataWords (kindOf byte0) (countOf h)) (drop (addressWords byte0) rest);
+    }
+
+-- what a step comes to: c is the command read, and `go n` what follows behind n words
+abbrev pub turn : Step → Command → (ℕ → Reading (List Command)) → Reading (List Command)
+turn (Refused r) c go = Wrong r
+turn (Read d) c go = cond (d .last) (Means (c ∷ [])) (before c (go (d .body)))
+
+-- "Then the commands are walked": the commands in the words ws, the next header, word `at` of the message, standing behind `skip` of
+-- them; "3 (no word there)" at the place where it should stand
+unfoldable pub commandsFrom : ℕ → ℕ → ℕ → List ℕ → Reading (List Command)
+commandsFrom byte0 at skip [] = Wrong (refusedAt 3 at)
+commandsFrom byte0 at (suc skip) (w ∷ ws) = commandsFrom byte0 at skip ws
+commandsFrom byte0 at zero (h ∷ rest) =
+    turn (stepOn byte0 at h (length rest) (addressFrom (addressWords byte0) rest)) (commandOf byte0 h rest) (λ n. commandsFrom byte0 (at + 1 + n) n rest)
+
+-- "Then 10": the answer with all commands OK would pass the limit
+unfoldable pub ended : ℕ → Reading (List Command) → Reading Request
+ended byte0 (Wrong r) = Wrong r
+ended byte0 (Means cs) = cond (leb (replies byte0 cs) limit) (Means (record { byte0 = byte0; commands = cs })) (Wrong (refusal 10))
+
+-- a datagram: 2, then the walk, then 10
+unfoldable pub read : List ℕ → Reading Request
+read dg = cond (lengthOk (length dg)) (ended (getD dg 0 0) (commandsFrom (getD dg 0 0) 0 0 (wordsOf dg))) (Wrong (refusal 2))
+
+-- what a datagram asks; nothing where it is refused
+abbrev pub askedBy : Reading Request → Request
+askedBy (Wrong n) = record { byte0 = 0; commands = [] }
+askedBy (Means r) = r
+
+unfoldable pub asked : List ℕ → Request
+asked dg = askedBy (read dg)
+
+-- its step at word `at` of the words ws; "3 (no word there)"
+unfoldable pub stepAt : ℕ → List ℕ → ℕ → Step
+stepAt byte0 ws at =
+    cond (ltb at (length ws)) (stepOn byte0 at (getD ws at 0) (length ws - at - 1) (addressFrom (addressWords byte0) (drop (at + 1) ws)))
+    (Refused (refusedAt 3 at))
+
 -- the refusal of a step that refused; none is 0
 abbrev pub refusalOf : Step → Refusal
 refusalOf (Read d) = refusal 0
 refusalOf (Refused r) = r
+
+-- what the walk tells at the end of its commands: 10, or the words of the all-OK answer
+unfoldable pub endOf : ℕ → Walked
+endOf answer = cond (leb answer limit) (WellFormed answer) (Malformed (refusal 10))
+
+-- and of commands that follow others whose answers have so many words
+unfoldable pub finish : ℕ → ℕ → Reading (List Command) → Walked
+finish byte0 answer (Wrong r) = Malformed r
+finish byte0 answer (Means cs) = endOf (answer + replies byte0 cs)
+
+-- what the walk tells of a datagram: the refusal, or the words of the all-OK answer
+abbrev pub walked : Reading Request → Walked
+walked (Wrong r) = Malformed r
+walked (Means r) = WellFormed (replies (r .byte0) (r .commands))
+
+unfoldable pub walkOf : List ℕ → Walked
+walkOf dg = walked (read dg)

@@ -1,14 +1,13 @@
-// What can be wrong with a header, 3 to 9: each check, and the first that fails. The contracts cite specs/Walk.antt.
+// What can be wrong with a header, 3 to 9: each check, and the first that fails.
 ghost use mathlib.Core.Path.{_≡_};
 ghost use Prim.Native.Nat.{_+_, _*_, _≤_};
 ghost use lib.ListN.{length, drop};
 ghost use Rattle.word.specs.Words.{wordsOf};
-ghost use Rattle.message.specs.Walk.{asks, countOk, zerosOk, gapsOk, firstOk, finalOk, gapless, patternOk, enablesOk, endsOk, faultOf};
-ghost use Rattle.message.specs.Header.{kindOf, countOf, byte1Of, lastOf, addressWords, bodyWords};
-ghost use Rattle.message.specs.Request.{addressFrom};
-use crate::header;
-use crate::header::Kind;
-use crate::refusal::Refusal;
+ghost use Rattle.message.specs.Faults.{asks, countOk, zerosOk, gapsOk, firstOk, finalOk, gapless, patternOk, enablesOk, faultOf};
+ghost use Rattle.header.specs.Header.{endsOk, kindOf, countOf, byte1Of, lastOf, addressWords, bodyWords};
+ghost use Rattle.message.specs.Address.{addressFrom};
+use header::Kind;
+use header::refusal::Refusal;
 
 // Whether byte 0 is a request's.
 fn asks_by(byte0: u32) -> bool
@@ -134,21 +133,11 @@ fn enables_fit(byte0: u32, h: u32, datagram: &[u8], at: usize) -> bool
     }
 }
 
-// Whether nothing follows the body of a LAST command.
-pub(crate) fn ends_ok(last: bool, body: usize, left: usize) -> bool
-    ensures { λ r. ⌜ r ≡ endsOk last body left ⌝ }
-{
-    if last {
-        return left == body;
-    }
-    true
-}
-
 // The same of a header with `left` words after it.
 fn ends_fit(byte0: u32, h: u32, left: usize) -> bool
     ensures { λ r. ⌜ r ≡ endsOk (lastOf h) (bodyWords byte0 (countOf h)) left ⌝ }
 {
-    ends_ok(header::last(h), header::body_words(byte0, h), left)
+    header::ends_ok(header::last(h), header::body_words(byte0, h), left)
 }
 
 // The first fault of the header h, at word `at` of a datagram with `left` words after it, in the document's order, or 0.
@@ -157,7 +146,7 @@ pub(crate) fn fault(byte0: u32, h: u32, left: usize, datagram: &[u8], at: usize)
     ensures { λ r. ⌜ r ≡ faultOf byte0 h left (addressFrom (addressWords byte0) (drop (at + 1) (wordsOf (now (datagram .entry))))) ⌝ }
 {
     if h % 256 != byte0 {
-        return Refusal::BYTE0;
+        return Refusal::BYTE_0;
     }
     if !asks_by(byte0) {
         return Refusal::KIND;

@@ -4,16 +4,16 @@ ghost use Prim.Native.Nat.{ℕ, _≤_};
 ghost use mathlib.Core.Bool.{true};
 ghost use lib.ListN.{length};
 ghost use Rattle.word.specs.Words.{wordsOf};
-ghost use Rattle.message.specs.declared.header.Kind.the-variants.{Write};
-ghost use Rattle.message.specs.Walk.{faultOf, refusalOf};
-ghost use Rattle.message.specs.Limits.{limit, limitBytes};
-ghost use Rattle.message.specs.Request.{commandsFrom, stepAt, lengthOk, endOf, finish, walkOf};
-ghost use Rattle.message.specs.Header.{kindOf, countOf};
+ghost use Rattle.header.specs.declared.Kind.the-variants.{Write};
+ghost use Rattle.message.specs.Faults.{faultOf};
+ghost use Rattle.message.specs.Walk.{refusalOf, commandsFrom, stepAt, endOf, finish, walkOf};
+ghost use Rattle.header.specs.Limits.{limit, limitBytes};
+ghost use Rattle.header.specs.Header.{kindOf, countOf};
 use crate::faults;
-use crate::header;
-use crate::header::Head;
-use crate::header::Kind;
-use crate::refusal::Refusal;
+use header::Head;
+use header::Kind;
+use header::limits;
+use header::refusal::Refusal;
 
 // What stands at a header: a command that was read, or its refusal.
 pub enum Step {
@@ -52,7 +52,7 @@ fn short_write(byte0: u32, h: u32, left: usize) -> bool
     if left < body {
         return false;
     }
-    faults::ends_ok(header::last(h), body, left)
+    header::ends_ok(header::last(h), body, left)
 }
 
 // The header at word `at` of a datagram. The body of a short write has a size of its own here, so that the processor knows where the
@@ -102,26 +102,13 @@ fn refusal_of(s: Step) -> Refusal
     }
 }
 
-// Whether a datagram may have this many bytes.
-pub fn length_ok(bytes: usize) -> bool
-    ensures { λ r. ⌜ r ≡ lengthOk bytes ⌝ }
-{
-    if bytes == 0 {
-        return false;
-    }
-    if bytes % 4 != 0 {
-        return false;
-    }
-    bytes <= crate::LIMIT_BYTES
-}
-
 // After the LAST command: the words of the all-OK answer, or 10 where they pass the limit.
 fn end(answer: usize) -> Walked
     ensures { λ r. ⌜ r ≡ endOf answer ⌝ }
 {
-    if crate::LIMIT < answer {
+    if limits::LIMIT < answer {
         return Walked::Malformed(Refusal {
-            number: Refusal::ANSWER,
+            number: Refusal::LONG_ANSWER,
             at: 0,
         });
     }
@@ -154,7 +141,7 @@ fn walk_on(datagram: &[u8], byte0: u32) -> Walked
 pub fn walk(datagram: &[u8]) -> Walked
     ensures { λ r. ⌜ r ≡ walkOf (now (datagram .entry)) ⌝ }
 {
-    if !length_ok(datagram.len()) {
+    if !limits::length_ok(datagram.len()) {
         return Walked::Malformed(Refusal {
             number: Refusal::LENGTH,
             at: 0,

@@ -12,8 +12,7 @@ use native.Mathlib.Nat.{not-suc-le-zero}
 use borrow.Author.Tests.{eq-eqb, ne-eqb, lt-ltb, le-ltb}
 use lib.ListN.{length, take, getElem?, length-append}
 use lib.Seq.{take-append-le, length-take-le, take-take}
-use Rattle.once.specs.World.{Ends, Event, offer, send, arrive, back, other, Origin, message, stranger, World}
-use Rattle.once.specs.World.{accepted, start, finished, sent, given, gave, came, took, heard, room, step}
+use Rattle.once.specs.World.{Ends, Event, offer, send, arrive, back, other, Origin, message, stranger, World, accepted, start, finished, sent, given, gave, came, took, heard, room, step}
 use Rattle.once.specs.Promise.{Terms, Ages, Timely, Allowed, made, results}
 use Rattle.once.specs.Laws.{Refused, outcomeAt, Heard, Laws}
 use Rattle.once.proofs.Lists.{each-more, inside, still, newly, among, one-more}

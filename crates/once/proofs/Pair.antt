@@ -9,8 +9,7 @@ use native.Mathlib.Nat.{not-suc-le-zero}
 use borrow.Author.Tests.{eq-eqb, ne-eqb}
 use Rattle.once.specs.Tags as Tags
 use Rattle.once.specs.Tags.{Verdict, new, again, late, verdict, tagIn, answerIn, Tagged}
-use Rattle.once.specs.Pair.{Work, Message, Datagram, request, discovery, answer, found, Controller, Sender}
-use Rattle.once.specs.Pair.{serveAs, received, serve, offerTo, sendAs, ended, takeAs, ends, Quiet, terms, Small, sight}
+use Rattle.once.specs.Pair.{Work, Message, Datagram, request, discovery, answer, found, Controller, Sender, serveAs, received, serve, offerTo, sendAs, ended, takeAs, ends, Quiet, terms, Small, sight}
 
 module _ (K : Work) where
   abbrev Kept : Controller K → Controller K → Type 0

@@ -14,8 +14,7 @@ use borrow.Author.Tests.{lt-ltb, le-ltb}
 use lib.ListN.{length, length-append}
 use lib.Seq.{getD-append-seam, take-all}
 use Rattle.once.specs.Runs.{run, Always, rounds}
-use Rattle.once.specs.World.{Ends, Event, offer, send, arrive, back, other, Origin, message, stranger, World}
-use Rattle.once.specs.World.{start, finished, sent, given, came, heard, room, step}
+use Rattle.once.specs.World.{Ends, Event, offer, send, arrive, back, other, Origin, message, stranger, World, start, finished, sent, given, came, heard, room, step}
 use Rattle.once.specs.Promise.{Terms, Ages, Timely, Allowed, made, results, Safe, Good, AllowedRun, after, Safety, Progress, Extends}
 use Rattle.once.specs.Laws.{Laws}
 use Rattle.once.proofs.Runs.{run-append, always-append, always-join, always-keeps, rounds-do}

@@ -2,12 +2,13 @@
 // controller starts fresh over 1,024 zero words and serves each; a line for each says how many words it sent, or its refusal, and
 // the last line the stored tag.
 use completer::serving;
-use completer::tags::TagRecord;
+use header::limits;
+use header::refusal::Refusal;
 use libc::STDIN_FILENO;
 use libc::STDOUT_FILENO;
-use message::refusal::Refusal;
+use tags::record::TagRecord;
 
-const RECORD: usize = 4 + message::LIMIT_BYTES;
+const RECORD: usize = 4 + limits::LIMIT_BYTES;
 
 // Whether records may follow, and the record of tags then.
 struct Turn {
@@ -62,7 +63,7 @@ fn serve_one(
         return Turn { more: false, tags };
     }
     let n = length_of(recorded) as usize;
-    if n > message::LIMIT_BYTES {
+    if n > limits::LIMIT_BYTES {
         say_refused(
             number,
             Refusal {
@@ -122,8 +123,8 @@ fn night(
 
 fn main() {
     let mut memory = [0u32; 1024];
-    let mut stored = [0u32; message::LIMIT];
-    let mut output = [0u8; message::LIMIT_BYTES];
+    let mut stored = [0u32; limits::LIMIT];
+    let mut output = [0u8; limits::LIMIT_BYTES];
     let mut recorded = [0u8; RECORD];
     let tags = night(&mut memory, &mut stored, &mut output, &mut recorded);
     io::write_all(STDOUT_FILENO, b"tag ");

@@ -68,7 +68,7 @@ fn command(request: &[u8], answer: &[u8], k: usize) {
     let ending = outcome::ended(request, answer, k);
     match ending {
         Ending::Absent => say(b": absent"),
-        Ending::Ended(status) => number(b": status ", message::answer::code(status) as u64),
+        Ending::Ended(status) => number(b": status ", answer::code(status) as u64),
     }
     let span = outcome::read_span(request, answer, k);
     number(b", data from ", span.start as u64);

@@ -6,7 +6,7 @@ use mathlib.Core.List.{List, [], _∷_, _++_, append-assoc, append-nil}
 use native.Mathlib.Omega.{arith}
 use lib.Arith.{mod-mul}
 use lib.Dec.{lit<}
-use lib.ListN.{length, getD, set, take, drop}
+use lib.ListN.{length, getD, set}
 use lib.Seq.{sets-eq}
 use native.Mathlib.Numerals.{add-one}
 use Rattle.word.specs.Words.{wordOf, fourOf, wordsOf, bytesOf, Below, Bytes, Words, put, putWords}

@@ -1,13 +1,13 @@
 -- Byte order and byte enables, once, over the byte's place. Whoever speaks of single bytes of words cites these. Assumes nothing.
-use Prim.Native.Nat.{ℕ, zero, suc, _+_, _*_, _/_, _%_, _<_, _≤_}
-use mathlib.Core.Path.{_≡_, refl, sym, ap, _∙_}
+use Prim.Native.Nat.{ℕ, zero, suc, _+_, _*_, _/_, _%_, _<_}
+use mathlib.Core.Path.{_≡_, refl, ap, _∙_}
 use mathlib.Core.Bool.{Bool, true, false, cond}
-use mathlib.Core.List.{List, [], _∷_, _++_}
+use mathlib.Core.List.{List, [], _∷_}
 use native.Mathlib.Omega.{arith}
 use native.Mathlib.Nat.{not-suc-le-zero, le-of-suc-le-suc, div-div-eq-div-mul}
 use lib.Dec.{eqb}
 use lib.ListN.{length, getD}
-use Rattle.word.specs.Words.{wordOf, fourOf, bytesOf}
+use Rattle.word.specs.Words.{bytesOf}
 use Rattle.word.specs.Enables.{byteOf, bitOf, ofBytes, merged}
 use Rattle.word.proofs.Crossing.{word-four}
 

@@ -1,8 +1,8 @@
 -- Runs in lists: what `put` makes of nothing, of a store, of a run behind a run. The proofs of `run`, and whoever writes an
 -- answer or a request piece by piece, cite these. Assumes nothing.
-use Prim.Native.Nat.{ℕ, zero, suc, _+_, _*_, _/_, _%_, _-_, _≤_, _<_}
+use Prim.Native.Nat.{ℕ, zero, suc, _+_, _*_, _/_, _%_, _≤_, _<_}
 use mathlib.Core.Path.{_≡_, refl, sym, ap, _∙_}
-use mathlib.Core.List.{List, [], _∷_, _++_, append-assoc, append-nil}
+use mathlib.Core.List.{List, [], _∷_, _++_, append-assoc}
 use native.Mathlib.Omega.{arith}
 use native.Mathlib.Numerals.{add-one}
 use native.Mathlib.Nat.{add-zero}
@@ -140,6 +140,14 @@ words-next l at s i h k =
 
 -- lists whose elements are below b
 module _ (b : ℕ) where
+  pub below-none : Below b []
+  unfolding Below
+  below-none = tt
+
+  pub below-cons : (x : ℕ) (l : List ℕ) → x < b → Below b l → Below b (x ∷ l)
+  unfolding Below
+  below-cons x l h k = (h, k)
+
   pub below-append : (s t : List ℕ) → Below b s → Below b t → Below b (s ++ t)
   unfolding Below
   below-append [] t h k = k

@@ -1,9 +1,9 @@
 -- `bench_sheet::line` meets its contract: the datagram keeps its length when words are put in it. Assumes nothing.
-use Prim.Native.Nat.{_*_, _≤_}
+use Prim.Native.Nat.{_*_}
 use mathlib.Core.Path.{sym, ap, _∙_}
 use native.Mathlib.Omega.{arith}
 use denote.Ref.{now}
-use lib.ListN.{length, length-replicate}
+use lib.ListN.{length}
 use lib.Seq.{length-take-le}
 use Rattle.word.proofs.Runs.{length-words}
 use borrow.Author.Needs.{needs}

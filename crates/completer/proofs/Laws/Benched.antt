@@ -2,15 +2,19 @@
 use mathlib.Core.Path.{refl}
 use Rattle.word.specs.Words.{wordsOf, bytesOf, put, putWords}
 use Rattle.word.specs.Enables.{byteOf, bitOf, ofBytes, merged}
-use Rattle.message.specs.Header.{kindNo, byte0From, headerFrom, headOf}
-use Rattle.message.specs.Walk.{patternOk, faultOf, stepOn}
-use Rattle.message.specs.Request.{addressFrom, commandOf, commandsFrom, replies, ended, lengthOk, read}
-use Rattle.message.specs.Answer.{answerByte, answeredWords, answerWords}
-use Rattle.completer.specs.Moves.{outside, fetches, storesBehind, stores, moves, afterMoves, memoryAfter}
-use Rattle.completer.specs.Answers.{answerOf, answers, answerTo, wordsTo}
-use Rattle.completer.specs.Carrying.{asked}
-use Rattle.completer.specs.Tags.{repeats, expected, markOf, lentOk, heldOk, recordOk, keptOk}
-use Rattle.completer.specs.Serving.{ruleOf, verdictOf, answerBy, after}
+use Rattle.header.specs.Header.{kindNo, byte0From, headerFrom, headOf}
+use Rattle.header.specs.Limits.{lengthOk}
+use Rattle.message.specs.Faults.{patternOk, faultOf}
+use Rattle.message.specs.Walk.{stepOn, commandOf, commandsFrom, ended, read, asked}
+use Rattle.message.specs.Address.{addressFrom}
+use Rattle.message.specs.Request.{replies}
+use Rattle.answer.specs.Answer.{answerByte, answeredWords, answerWords}
+use Rattle.memory.specs.Moves.{outside, fetches, storesBehind, stores, moves, afterMoves, memoryAfter}
+use Rattle.carrying.specs.Answers.{answerOf, answers, answerTo, wordsTo}
+use Rattle.tags.specs.Rule.{repeats, expected, ruleOf}
+use Rattle.tags.specs.Record.{markOf, heldOk, recordOk, keptOk}
+use Rattle.completer.specs.Verdict.{lentOk, verdictOf}
+use Rattle.completer.specs.Serving.{answerBy, after}
 use Rattle.completer.specs.BenchSheet.{plays, same, sameRecord, benchStart, right, every, benchSheet, BenchHolds}
 
 pub benched : BenchHolds

@@ -1,21 +1,26 @@
 -- The promises of a call: who changes what, and what is sent. Whoever stands above `serve` cites these. Assumes nothing.
-use Prim.Native.Nat.{ℕ, _*_}
+use Prim.Native.Nat.{ℕ, _*_, _≤_}
 use mathlib.Core.Path.{_≡_, refl, sym, ap, _∙_}
 use mathlib.Core.Bool.{Bool, true, false, cond, _&&_, false≢true}
 use mathlib.Core.List.{List}
+use borrow.Author.Tests.{le-ltb, le-leb}
 use lib.ListN.{length, take}
 use lib.Seq.{length-take-le}
 use Rattle.word.proofs.Runs.{put-front, words-front}
-use Rattle.message.specs.declared.refusal.Refusal.{Refusal}
-use Rattle.message.specs.Header.{tagOf, discoveryOf}
-use Rattle.message.specs.Walk.{refusal}
-use Rattle.message.specs.Request.{read}
-use Rattle.completer.specs.declared.tags.TagRecord.{TagRecord}
-use Rattle.completer.specs.declared.serving.Verdict.{Verdict}
-use Rattle.completer.specs.declared.serving.Verdict.the-variants.{Refused, New, Repeat, Discovery}
-use Rattle.completer.specs.Carrying.{asked}
-use Rattle.completer.specs.Tags.{repeats, expected, lentOk, keptOk}
-use Rattle.completer.specs.Serving.{ruleOf, judged, verdictOf, answerBy, afterBy, after, refusalOf}
+use Rattle.header.specs.declared.refusal.Refusal.{Refusal}
+use Rattle.header.specs.Refusal.{refusal}
+use Rattle.header.specs.Limits.{limitBytes}
+use Rattle.message.specs.Walk.{read, asked}
+use Rattle.message.specs.Request.{Request}
+use Rattle.carrying.specs.Answers.{wordsTo}
+use Rattle.tags.specs.declared.record.TagRecord.{TagRecord}
+use Rattle.tags.specs.declared.rule.Verdict.{Verdict}
+use Rattle.tags.specs.declared.rule.Verdict.the-variants.{Refused, New, Repeat, Discovery}
+use Rattle.tags.specs.Rule.{ruleOf}
+use Rattle.tags.specs.Record.{markOf, mostMemory, keptOk}
+use Rattle.tags.proofs.Laws.Records.{rule-zero}
+use Rattle.completer.specs.Verdict.{lentOk, judged, verdictOf}
+use Rattle.completer.specs.Serving.{answerBy, afterBy, after, refusalOf}
 use Rattle.completer.specs.Called.{Unchanged, RefusalKeeps, SaysWhere, NewStores, RepeatSends, DiscoveryKeeps}
 use Rattle.completer.proofs.Laws.Verdicts.{one, again-fits}
 
@@ -32,15 +37,14 @@ then-judged true false v e = absurd (false≢true e)
 then-judged false b v e = absurd (false≢true e)
 
 -- by its tag a message is refused with index 0, if at all
-rule-zero : (t : TagRecord) (byte0 : ℕ) → refusalOf (ruleOf t byte0) .at ≡ 0
-unfolding ruleOf
-rule-zero t byte0 = go (discoveryOf byte0) (repeats t (tagOf byte0)) (expected t (tagOf byte0))
+rule-at : (t : TagRecord) (byte0 : ℕ) → refusalOf (ruleOf t byte0) .at ≡ 0
+rule-at t byte0 = go (ruleOf t byte0) refl
   where
-    go : (a b c : Bool) → refusalOf (cond a Discovery (cond b Repeat (cond c New (Refused (refusal 11))))) .at ≡ 0
-    go true b c = refl
-    go false true c = refl
-    go false false true = refl
-    go false false false = refl
+    go : (v : Verdict) → ruleOf t byte0 ≡ v → refusalOf v .at ≡ 0
+    go (Refused r) e = rule-zero t byte0 r e
+    go New e = refl
+    go Repeat e = refl
+    go Discovery e = refl
 
 module _ (m s o : List ℕ) (t : TagRecord) (dg : List ℕ) where
   pub refusal-keeps : RefusalKeeps m s o t dg
@@ -66,7 +70,7 @@ module _ (m s o : List ℕ) (t : TagRecord) (dg : List ℕ) where
       record {
         lent = λ e. by-verdict v ∙ one-first a b j e;
         walked = λ r e w. by-verdict v ∙ then-judged a b j e ∙ ap (λ p. refusalOf (judged t p)) w;
-        others = λ r w. ap (λ (q : Refusal). q .at) (by-verdict v) ∙ zero (a && b) refl (rw w (rule-zero t (r .byte0)));
+        others = λ r w. ap (λ (q : Refusal). q .at) (by-verdict v) ∙ zero (a && b) refl (rw w (rule-at t (r .byte0)));
       }
     where
       a : Bool
@@ -98,3 +102,23 @@ module _ (m s o : List ℕ) (t : TagRecord) (dg : List ℕ) where
   pub discovery-keeps : DiscoveryKeeps m s o t dg
   unfolding after
   discovery-keeps e = rw e (refl, refl)
+
+-- what is lent passes check 1
+pub lent-fits : (memory output : ℕ) → 1 ≤ memory → memory ≤ mostMemory → limitBytes ≤ output → lentOk memory output ≡ true
+unfolding lentOk
+lent-fits memory output some most long = rw (le-ltb memory 1 some, le-ltb mostMemory memory most, le-leb limitBytes output long)
+
+-- then the call goes by the verdict on the datagram
+module _ (m s o : List ℕ) (t : TagRecord) (lent : lentOk (length m) (length o) ≡ true) (kept : keptOk (length s) t ≡ true) (dg : List ℕ) where
+  pub verdict-is : verdictOf (length m) (length s) (length o) t dg ≡ judged t (read dg)
+  unfolding verdictOf
+  verdict-is = rw (lent, kept)
+
+  pub called-by : (v : Verdict) → judged t (read dg) ≡ v → after m s o t dg ≡ afterBy v m s o t (asked dg)
+  unfolding after
+  called-by v e = rw (verdict-is, e)
+
+-- the answer by its record
+pub answer-by : (t : TagRecord) (r : Request) (m : List ℕ) → answerBy t r m ≡ wordsTo r (markOf t) m
+unfolding answerBy
+answer-by t r m = refl

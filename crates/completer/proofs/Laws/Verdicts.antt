@@ -1,42 +1,33 @@
 -- What a verdict tells: of the record, of what is lent, and of the datagram. The proofs of `tags` and `serving` cite these.
 -- Assumes nothing.
-use Prim.Native.Nat.{ℕ, _-_, _*_, _≤_, _<_}
+use Prim.Native.Nat.{ℕ, _-_, _*_, _≤_}
 use mathlib.Core.Path.{_≡_, refl, sym, ap, _∙_}
 use mathlib.Core.Bool.{Bool, true, false, cond, false≢true}
 use mathlib.Core.List.{List}
 use native.Mathlib.Omega.{arith}
 use native.Mathlib.Nat.{sub-zero}
-use borrow.Author.Tests.{ltb-false, leb-true, leb-false}
-use lib.Dec.{ltb, leb, eqb}
+use borrow.Author.Tests.{leb-true}
+use lib.Dec.{ltb, leb}
 use lib.ListN.{length, take}
 use Rattle.word.specs.Words.{putWords}
 use Rattle.word.proofs.Runs.{words-none}
-use Rattle.message.specs.declared.refusal.Refusal.{Refusal}
-use Rattle.message.specs.Limits.{limit, limitBytes}
-use Rattle.message.specs.Header.{tagOf, discoveryOf}
-use Rattle.message.specs.Walk.{refusal}
-use Rattle.message.specs.Request.{Request, Reading, Wrong, Means, read}
-use Rattle.completer.specs.declared.tags.TagRecord.{TagRecord}
-use Rattle.completer.specs.declared.serving.Verdict.{Verdict}
-use Rattle.completer.specs.declared.serving.Verdict.the-variants.{Refused, New, Repeat, Discovery}
+use Rattle.header.specs.declared.refusal.Refusal.{Refusal}
+use Rattle.header.specs.Limits.{limit, limitBytes}
+use Rattle.header.specs.Refusal.{refusal}
+use Rattle.message.specs.Request.{Request, Reading, Wrong, Means}
+use Rattle.message.specs.Walk.{read, asked}
+use Rattle.message.proofs.Laws.Back as message
+use Rattle.carrying.specs.Carry.{Carries}
+use Rattle.carrying.proofs.Laws.Putting.{kept-on, kept-off}
+use Rattle.tags.specs.declared.record.TagRecord.{TagRecord}
+use Rattle.tags.specs.declared.rule.Verdict.{Verdict}
+use Rattle.tags.specs.declared.rule.Verdict.the-variants.{Refused, New, Repeat, Discovery}
+use Rattle.tags.specs.Record.{markOf, mostMemory, recordOk, keptOk, recordBy}
+use Rattle.tags.specs.Rule.{ruleOf}
+use Rattle.tags.proofs.Laws.Records.{holds, kept-room, rule-held}
 use Rattle.completer.specs.declared.serving.Served.{Served}
-use Rattle.completer.specs.Carrying.{asked, askedBy, keptIn, Carries}
-use Rattle.completer.specs.Tags.{repeats, expected, markOf, mostMemory, lentOk, heldOk, recordOk, keptOk}
-use Rattle.completer.specs.Serving.{ruleOf, judged, verdictOf, answerBy, recordBy, after, carriesOf, keepsOf, refusalOf, againOf, Serves, ServesBy}
-
--- a record that is let by: where it holds a tag, the tag and the length are right
-pub record Holds (tags : TagRecord) : Type 0 where
-  pub tag : tags .tag < 16
-  pub words : tags .words ≤ limit
-
-pub holds : (tags : TagRecord) → recordOk tags ≡ true → tags .fresh ≡ false → Holds tags
-unfolding recordOk heldOk
-holds tags e f = go (leb 16 (tags .tag)) (ltb (tags .words) 1) refl (rw f at e)
-  where
-    go : (a b : Bool) → leb 16 (tags .tag) ≡ a → cond a false (cond b false (leb (tags .words) limit)) ≡ true → Holds tags
-    go true b p q = absurd (false≢true q)
-    go false true p q = absurd (false≢true q)
-    go false false p q = record { tag = leb-false 16 (tags .tag) p; words = leb-true (tags .words) limit q }
+use Rattle.completer.specs.Verdict.{lentOk, judged, verdictOf}
+use Rattle.completer.specs.Serving.{answerBy, after, carriesOf, keepsOf, refusalOf, againOf, Serves, ServesBy}
 
 -- what is lent, where it is let by
 lent-room : (memory output : ℕ) → lentOk memory output ≡ true → limitBytes ≤ output
@@ -47,14 +38,6 @@ lent-room memory output e = go (ltb memory 1) (ltb mostMemory memory) e
     go true b q = absurd (false≢true q)
     go false true q = absurd (false≢true q)
     go false false q = leb-true limitBytes output q
-
-pub kept-room : (stored : ℕ) (tags : TagRecord) → keptOk stored tags ≡ true → (limit ≤ stored) × (recordOk tags ≡ true)
-unfolding keptOk
-kept-room stored tags e = go (ltb stored limit) refl e
-  where
-    go : (a : Bool) → ltb stored limit ≡ a → cond a false (recordOk tags) ≡ true → (limit ≤ stored) × (recordOk tags ≡ true)
-    go true p q = absurd (false≢true q)
-    go false p q = (ltb-false stored limit p, q)
 
 -- a verdict other than refusal 1 is that of the datagram, and all that is lent is right
 abbrev pub one : Verdict
@@ -80,12 +63,11 @@ let-by {m} {s} {o} {tags} {dg} {v} e h =
 
 -- a message that is carried out was read
 means-asked : (tags : TagRecord) (dg : List ℕ) → carriesOf (judged tags (read dg)) ≡ true → read dg ≡ Means (asked dg)
-unfolding asked
-means-asked tags dg e = go (read dg) e
+means-asked tags dg e = go (read dg) refl e
   where
-    go : (p : Reading Request) → carriesOf (judged tags p) ≡ true → p ≡ Means (askedBy p)
-    go (Wrong r) e = absurd (false≢true e)
-    go (Means r) e = refl
+    go : (p : Reading Request) → read dg ≡ p → carriesOf (judged tags p) ≡ true → read dg ≡ Means (asked dg)
+    go (Wrong r) q e = absurd (false≢true e)
+    go (Means r) q e = message.means-asked dg r q
 
 pub record Carrying (m s o : ℕ) (tags : TagRecord) (dg : List ℕ) : Type 0 where
   pub means : read dg ≡ Means (asked dg)
@@ -100,25 +82,6 @@ pub carrying : {m s o : ℕ} {tags : TagRecord} {dg : List ℕ} {v : Verdict} �
 carrying {tags = tags} {dg} {v} e c =
     let l = let-by e (carries-not-one v c) in
     record { means = means-asked tags dg (ap carriesOf (l .is) ∙ c); good = l .good; stored = l .stored; output = l .output }
-
--- only a record that holds a tag has a repeat
-repeats-held : (tags : TagRecord) (tag : ℕ) → repeats tags tag ≡ true → tags .fresh ≡ false
-unfolding repeats
-repeats-held tags tag e = go (tags .fresh) e
-  where
-    go : (b : Bool) → cond b false (eqb tag (tags .tag)) ≡ true → b ≡ false
-    go true q = absurd (false≢true q)
-    go false q = refl
-
-rule-held : (tags : TagRecord) (byte0 : ℕ) → ruleOf tags byte0 ≡ Repeat → tags .fresh ≡ false
-unfolding ruleOf
-rule-held tags byte0 e = go (discoveryOf byte0) (repeats tags (tagOf byte0)) (expected tags (tagOf byte0)) refl e
-  where
-    go : (a b c : Bool) → repeats tags (tagOf byte0) ≡ b → cond a Discovery (cond b Repeat (cond c New (Refused (refusal 11)))) ≡ Repeat → tags .fresh ≡ false
-    go true b c z q = let n : _≡_ {A = ℕ} 0 1 = cc in absurd (omega arith)
-    go false true c z q = repeats-held tags (tagOf byte0) z
-    go false false true z q = let n : _≡_ {A = ℕ} 0 1 = cc in absurd (omega arith)
-    go false false false z q = let n : _≡_ {A = ℕ} 0 1 = cc in absurd (omega arith)
 
 repeat-held : (tags : TagRecord) (p : Reading Request) → judged tags p ≡ Repeat → tags .fresh ≡ false
 repeat-held tags (Wrong r) e = let n : _≡_ {A = ℕ} 0 1 = cc in absurd (omega arith)
@@ -151,9 +114,9 @@ settled Discovery s o m q c a e p = absurd (false≢true (sym c))
 pub acted : {n : ℕ} {tags tags' : TagRecord} {byte0 mark : ℕ} {q : Request} {m s o m' s' o' : List ℕ} (keep : Bool) → byte0 ≡ q .byte0 → mark ≡ markOf tags
     → Carries q mark keep m s o n m' s' o' → tags' ≡ recordBy keep tags byte0 n
     → ServesBy (cond keep New Discovery) m s o tags q (record { refusal = refusal 0; sent = 4 * n; tags = tags' }) m' s' o'
-unfolding answerBy keptIn
-acted true b k x t = record { served = rw (t, b, x .words, k); memory = x .memory; stored = x .puts .stored ∙ rw k; output = x .puts .output ∙ rw k }
-acted false b k x t = record { served = rw (t, x .words, k); memory = x .memory; stored = x .puts .stored; output = x .puts .output ∙ rw k }
+unfolding answerBy
+acted {s = s} true b k x t = record { served = rw (t, b, x .words, k); memory = x .memory; stored = x .puts .stored ∙ sym (kept-on true s 0 _ refl) ∙ rw k; output = x .puts .output ∙ rw k }
+acted {s = s} false b k x t = record { served = rw (t, x .words, k); memory = x .memory; stored = x .puts .stored ∙ sym (kept-off false s 0 _ refl); output = x .puts .output ∙ rw k }
 
 -- the call by its verdict
 pub served-by : {m s o : List ℕ} {tags : TagRecord} {dg : List ℕ} {v : Verdict} {r : Served} {m' s' o' : List ℕ} → v ≡ verdictOf (length m) (length s) (length o) tags dg

@@ -44,11 +44,11 @@ use denote.Triple.Table.{entered, cited}
 use denote.Triple.Walked.{says, Stays, stay-ref, gave-slice, stay-none-slice, walkOf, AllGo, goes-ref, goes-gave-slice, goes-none-slice, ends-at, walked, walk-meets}
 use denote.Exit.{yes}
 use denote.Signature.{plain}
-use Rattle.completer.specs.declared.tags.TagRecord.{TagRecord}
+use Rattle.tags.specs.declared.record.TagRecord.{TagRecord}
 use Rattle.completer.specs.declared.serving.Served.{Served}
 use Rattle.completer.specs.Serving.{Serves}
-use Rattle.completer.proofs.tags.TagRecord as T
-use Rattle.completer.proofs.tags.TagRecord.Laws as T′
+use Rattle.tags.proofs.record.TagRecord as T
+use Rattle.tags.proofs.record.TagRecord.Laws as T′
 use Rattle.completer.proofs.serving.Served as S
 use Rattle.completer.proofs.serving.Served.Laws as S′
 use Rattle.completer.proofs.serving.serve as serve

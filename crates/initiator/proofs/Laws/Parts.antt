@@ -3,25 +3,24 @@
 use Prim.Native.Nat.{ℕ, zero, suc, _+_, _-_, _*_, _≤_}
 use mathlib.Core.Path.{_≡_, refl, sym, ap, _∙_}
 use mathlib.Core.Bool.{Bool, true, false, cond}
-use mathlib.Core.List.{List, [], _∷_, _++_, append-assoc, append-nil}
+use mathlib.Core.List.{List, [], _∷_, _++_, append-assoc}
 use native.Mathlib.Omega.{arith}
-use lib.ListN.{length, getD, take, drop, length-append}
+use lib.ListN.{length, take, drop, length-append}
 use lib.Seq.{take-at, drop-at}
 use Rattle.word.specs.Words.{bytesOf, Bytes}
 use Rattle.word.proofs.Runs.{bytes-none, bytes-append, length-bytes}
-use Rattle.message.specs.declared.header.Kind.{Kind}
-use Rattle.message.specs.declared.header.Kind.the-variants.{Nop, Write, Read, Response}
-use Rattle.message.specs.declared.answer.Status.{Status}
-use Rattle.message.specs.declared.answer.Status.the-variants.{Ok, Timeout, Error}
-use Rattle.message.specs.declared.refusal.Refusal.{Refusal}
-use Rattle.message.specs.Header.{discoveryOf, headerFrom}
-use Rattle.message.specs.Walk.{refusal}
-use Rattle.message.specs.Request.{Request, Reading, Wrong, Means, read, none}
-use Rattle.message.specs.Answer.{Answered, codeOf, answerByte, judge, answeredWords, answerWords, encodeAnswer}
-use Rattle.message.proofs.Laws.Answering.{answered-is, answer-more, encoded-is}
-use Rattle.message.proofs.Laws.Judged.{encode-judged}
-use Rattle.initiator.specs.declared.outcome.Span.{Span}
-use Rattle.initiator.specs.Outcome.{judgedBy, empty, spanOf, partOf, partAt, partIn, cut, dataOf, dataAt, dataIn}
+use Rattle.header.specs.declared.Kind.{Kind}
+use Rattle.header.specs.declared.Kind.the-variants.{Nop, Write, Read, Response}
+use Rattle.header.specs.declared.refusal.Refusal.{Refusal}
+use Rattle.header.specs.Header.{discoveryOf, headerFrom}
+use Rattle.header.specs.Refusal.{refusal}
+use Rattle.message.specs.Request.{Request, Reading, Wrong, Means, none}
+use Rattle.answer.specs.declared.Status.{Status}
+use Rattle.answer.specs.declared.Status.the-variants.{Ok, Timeout, Error}
+use Rattle.answer.specs.Answer.{Answered, codeOf, answerByte, judge, answerWords}
+use Rattle.answer.proofs.Laws.Answering.{answered-is, answer-more, encoded-is}
+use Rattle.answer.proofs.Laws.Judged.{encode-judged}
+use Rattle.initiator.specs.Outcome.{judgedBy, spanOf, partOf, partAt, partIn, cut, dataOf, dataAt, dataIn}
 
 -- a run of words in the middle of bytes
 middle : (p s r : List ℕ) (a n : ℕ) → length p ≡ a → length s ≡ n → take (4 * (a + n) - 4 * a) (drop (4 * a) (bytesOf (p ++ (s ++ r)))) ≡ bytesOf s

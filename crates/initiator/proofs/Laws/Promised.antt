@@ -1,5 +1,5 @@
 -- The sender's promises. Whoever stands above the sender cites these. Assumes nothing.
-use Prim.Native.Nat.{ℕ, _+_, _%_, _<_}
+use Prim.Native.Nat.{ℕ, _<_}
 use mathlib.Core.Path.{_≡_, refl, sym, ap, _∙_}
 use mathlib.Core.Bool.{Bool, true, false, not, cond}
 use mathlib.Core.List.{List}
@@ -8,17 +8,18 @@ use borrow.Author.Tests.{eq-eqb, eqb-true, eqb-false, lt-ltb}
 use lib.Dec.{ltb, eqb}
 use lib.ListN.{getD}
 use Rattle.word.specs.Words.{Bytes}
-use Rattle.message.specs.declared.refusal.Refusal.{Refusal}
-use Rattle.message.specs.Header.{tagOf, discoveryOf}
-use Rattle.message.specs.Walk.{refusedAt, refusal, unless}
-use Rattle.message.specs.Request.{Request, Reading, Wrong, Means, read}
-use Rattle.message.specs.Answer.{Answered, answerByte, judge}
+use Rattle.header.specs.declared.refusal.Refusal.{Refusal}
+use Rattle.header.specs.Header.{tagOf, discoveryOf, nextTag}
+use Rattle.header.specs.Refusal.{refusedAt, refusal, unless}
+use Rattle.message.specs.Request.{Request, Reading, Wrong, Means}
+use Rattle.message.specs.Walk.{read}
 use Rattle.message.proofs.Laws.Faults.{no-mean}
 use Rattle.message.proofs.Laws.Back.{written-read}
 use Rattle.message.proofs.Laws.Going.{read-first}
-use Rattle.message.proofs.Laws.Judged.{encode-judged}
-use Rattle.message.proofs.Laws.Looking.{judge-first}
-use Rattle.message.proofs.Laws.Answers.{answer-tag, answer-discovery}
+use Rattle.answer.specs.Answer.{Answered, answerByte, judge}
+use Rattle.answer.proofs.Laws.Judged.{encode-judged}
+use Rattle.answer.proofs.Laws.Looking.{judge-first}
+use Rattle.answer.proofs.Laws.Answers.{answer-tag, answer-discovery}
 use Rattle.initiator.specs.declared.sender.Sender.{Sender}
 use Rattle.initiator.specs.declared.sender.Moved.{Moved}
 use Rattle.initiator.specs.declared.outcome.Outcome.{Outcome}
@@ -92,7 +93,7 @@ accepted s message answer bm ba z =
     let l = let-by s message answer z in
     let h = heard (read message) answer (l .items) (l .told) in
     let r = h .request in
-    let t : takeOf s message answer ≡ record { refusal = refusal 0; sender = record { next = (s .next + 1) % 16; waits = false } } =
+    let t : takeOf s message answer ≡ record { refusal = refusal 0; sender = record { next = nextTag (s .next); waits = false } } =
     take-judged s message answer (l .own) ∙ ap (takenBy s) (l .told) in
     let byte : getD message 0 0 ≡ r .byte0 = read-first message r (h .is) .1 in
     let first : getD answer 0 0 ≡ answerByte (r .byte0) = judge-first r answer (l .items) (h .judged) in

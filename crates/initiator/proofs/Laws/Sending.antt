@@ -1,23 +1,22 @@
 -- The sender's checks, one by one. The proofs of the sender's functions cite these. Assumes nothing.
-use Prim.Native.Nat.{ℕ, _+_, _%_, _<_, _≤_}
+use Prim.Native.Nat.{ℕ, _<_}
 use mathlib.Core.Path.{_≡_, refl, sym, _∙_}
 use mathlib.Core.Bool.{Bool, true, false, cond}
 use mathlib.Core.List.{List}
 use native.Mathlib.Omega.{arith}
 use borrow.Author.Tests.{ltb-true}
 use lib.Dec.{ltb, eqb}
-use lib.ListN.{getD, length}
-use Rattle.message.specs.declared.refusal.Refusal.{Refusal}
-use Rattle.message.specs.Header.{tagOf, discoveryOf}
-use Rattle.message.specs.Walk.{refusedAt, refusal, unless}
-use Rattle.message.specs.Request.{Request, Reading, Wrong, Means, refusalIn, read}
-use Rattle.message.specs.Answer.{Answered, judge}
-use Rattle.message.proofs.Laws.Faults.{number-is}
+use lib.ListN.{getD}
+use Rattle.header.specs.declared.refusal.Refusal.{Refusal}
+use Rattle.header.specs.Header.{tagOf, discoveryOf, nextTag}
+use Rattle.header.specs.Refusal.{refusedAt, refusal, unless}
+use Rattle.header.proofs.Laws.Refusals.{number-is}
+use Rattle.message.specs.Request.{Request, Reading, Wrong, Means, refusalIn}
+use Rattle.message.specs.Walk.{read}
 use Rattle.message.proofs.Laws.Going.{read-first}
-use Rattle.message.proofs.Laws.Looking.{Some, judge-some}
+use Rattle.answer.specs.Answer.{Answered, judge}
+use Rattle.answer.proofs.Laws.Looking.{Some, judge-some}
 use Rattle.initiator.specs.declared.sender.Sender.{Sender}
-use Rattle.initiator.specs.declared.sender.Moved.{Moved}
-use Rattle.initiator.specs.declared.outcome.Outcome.{Outcome}
 use Rattle.initiator.specs.Outcome.{judgedBy, toldOf, outcomeOf}
 use Rattle.initiator.specs.Sender.{asksAs, askFault, sendFault, takenBy}
 
@@ -74,7 +73,7 @@ module _ (s : Sender) where
   taken-wrong (Means items) h z = absurd (z refl)
 
   taken-right : (p : Reading (List Answered)) → Some p → refusalIn p .number ≡ 0
-      → record { refusal = refusalIn p; sender = record { next = (s .next + 1) % 16; waits = false } } ≡ takenBy s p
+      → record { refusal = refusalIn p; sender = record { next = nextTag (s .next); waits = false } } ≡ takenBy s p
   taken-right (Wrong r) h z = absurd (omega arith)
   taken-right (Means items) h z = refl
 
@@ -88,6 +87,6 @@ module _ (s : Sender) where
         rw (e, refusal-is) (taken-wrong (judgedBy (read message) answer) (answer-some (read message) answer) (λ q. z (number-is (e ∙ refusal-is) ∙ q)))
 
     pub take-right : {r : Refusal} → r ≡ outcomeOf message answer 0 .refusal → r .number ≡ 0
-        → record { refusal = r; sender = record { next = (s .next + 1) % 16; waits = false } } ≡ takenBy s (judgedBy (read message) answer)
+        → record { refusal = r; sender = record { next = nextTag (s .next); waits = false } } ≡ takenBy s (judgedBy (read message) answer)
     take-right e z =
         rw (e, refusal-is) (taken-right (judgedBy (read message) answer) (answer-some (read message) answer) (sym (number-is (e ∙ refusal-is)) ∙ z))

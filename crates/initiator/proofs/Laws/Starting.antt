@@ -1,31 +1,31 @@
 -- A sender made from the answer to the fixed discovery, check by check. The proof of `discovered` cites these. Assumes nothing.
-use Prim.Native.Nat.{ℕ, zero, suc, _+_, _≤_, _<_}
+use Prim.Native.Nat.{ℕ, _+_, _%_, _<_}
 use mathlib.Core.Path.{_≡_, refl, sym, ap, _∙_}
 use mathlib.Core.Bool.{Bool, true, false, cond, false≢true}
 use mathlib.Core.List.{List, [], _∷_}
 use native.Mathlib.Omega.{arith}
-use borrow.Author.Tests.{ltb-true, eqb-true}
+use borrow.Author.Tests.{ltb-true, le-ltb, lt-ltb}
 use lib.Dec.{ltb, eqb}
 use lib.ListN.{length, getD, take, drop}
 use lib.Seq.{getD-take, getD-drop}
 use Rattle.word.specs.Words.{wordsOf}
-use Rattle.message.specs.declared.header.Kind.{Kind}
-use Rattle.message.specs.declared.header.Kind.the-variants.{Nop}
-use Rattle.message.specs.declared.answer.Status.{Status}
-use Rattle.message.specs.declared.answer.Status.the-variants.{Ok, Timeout, Error}
-use Rattle.message.specs.declared.answer.Seen.{Seen}
-use Rattle.message.specs.declared.answer.Look.{Look}
-use Rattle.message.specs.declared.answer.Look.the-variants.{Item, Bad}
-use Rattle.message.specs.declared.refusal.Refusal.{Refusal}
-use Rattle.message.specs.Header.{kindOf, byte0From, replyWords}
-use Rattle.message.specs.Walk.{refusal}
-use Rattle.message.specs.Request.{Reading, Wrong, Means, before, lengthOk}
-use Rattle.message.specs.Answer.{Answered, answerByte, wanted, judge, lookAt, lookTurn, answersFrom}
-use Rattle.message.proofs.Laws.Headers.{kind-back}
-use Rattle.message.proofs.Laws.Judged.{other-byte}
-use Rattle.message.proofs.Laws.Looking.{judge-long, judge-whole, looked, Found, found}
-use Rattle.initiator.specs.declared.sender.Moved.{Moved}
-use Rattle.initiator.specs.Sender.{discoveryByte, discoveryCommand, discoveryRequest, wordOk, spoiled, startedBy, startedFrom, startOf}
+use Rattle.header.specs.declared.Kind.{Kind}
+use Rattle.header.specs.declared.Kind.the-variants.{Nop}
+use Rattle.header.specs.declared.refusal.Refusal.{Refusal}
+use Rattle.header.specs.Header.{kindOf, replyWords, nextTag}
+use Rattle.header.specs.Refusal.{refusal}
+use Rattle.header.specs.Limits.{lengthOk}
+use Rattle.message.specs.Discovery.{discoveryByte, discoveryCommand, discoveryRequest}
+use Rattle.message.specs.Request.{Means}
+use Rattle.message.proofs.Laws.Fixed.{discovery-kind}
+use Rattle.answer.specs.declared.Status.{Status}
+use Rattle.answer.specs.declared.Status.the-variants.{Ok}
+use Rattle.answer.specs.declared.Seen.{Seen}
+use Rattle.answer.specs.declared.Look.the-variants.{Item, Bad}
+use Rattle.answer.specs.Answer.{Answered, answerByte, wanted, lookAt, lookTurn, answersFrom, judge}
+use Rattle.answer.proofs.Laws.Judged.{other-byte}
+use Rattle.answer.proofs.Laws.Looking.{judge-long, judge-whole, looked, Found, found}
+use Rattle.initiator.specs.Sender.{freshSender, wordOk, nextAfter, spoiled, startedAt, startedBy, startedFrom, startOf}
 
 -- a word that is let by is below 32
 pub word-lt : (w : ℕ) → wordOk w ≡ true → w < 32
@@ -80,10 +80,26 @@ module _ (answer : List ℕ) where
 
         -- an OK answer has two words, and word 1 is the datagram's third
         pub start-two : s .status ≡ Ok → s .count ≡ 2
-        unfolding discoveryByte
         start-two o =
-            let k : kindOf byte0 ≡ Nop = ap kindOf is ∙ kind-back 0 Nop false true (omega arith) in
+            let k : kindOf byte0 ≡ Nop = ap kindOf is ∙ discovery-kind in
             start-found .counted ∙ ap (wanted byte0 2) o ∙ ap (λ (x : Kind). replyWords x 2) k
 
         pub start-word : s .status ≡ Ok → getD (take (s .count) (drop (0 + 1) ws)) 1 0 ≡ getD ws 2 0
         start-word o = getD-take (s .count) (drop (0 + 1) ws) 1 0 (omega (arith, start-two o)) ∙ getD-drop (0 + 1) ws 1 0
+
+-- an answer that is judged to say something
+pub start-means : (answer : List ℕ) (a : Answered) (more : List Answered) → judge discoveryRequest answer ≡ Means (a ∷ more)
+    → startOf answer ≡ startedBy (a .status) (getD (a .payload) 1 0)
+unfolding startOf
+start-means answer a more e = rw e
+
+-- what word 1 makes: of a fresh controller, and of one that holds a tag
+pub started-fresh : startedAt 0 .sender ≡ freshSender
+unfolding startedAt wordOk nextAfter
+started-fresh = refl
+
+pub started-held : (tag : ℕ) → tag < 16 → startedAt (tag + 16) .sender ≡ record { next = nextTag tag; waits = false }
+unfolding startedAt wordOk nextAfter
+started-held tag h =
+    let n : (tag + 16) % 16 ≡ tag = omega arith in
+    rw (le-ltb (tag + 16) 16 (omega arith), lt-ltb (tag + 16) 32 (omega arith), n)

@@ -1,6 +1,6 @@
 -- An answer beside its request, as the loop of `look_through` goes: what was told so far and what is still to come make the whole.
 -- Assumes nothing.
-use Prim.Native.Nat.{ℕ, zero, suc, _+_, _-_, _*_, _<_, _≤_}
+use Prim.Native.Nat.{ℕ, zero, suc, _+_, _<_, _≤_}
 use mathlib.Core.Path.{_≡_, refl, sym, ap, _∙_}
 use mathlib.Core.Bool.{Bool, true, false, cond, false≢true}
 use mathlib.Core.List.{List, [], _∷_}
@@ -10,22 +10,22 @@ use borrow.Author.Tests.{eq-eqb, ne-eqb}
 use lib.Dec.{eqb}
 use lib.ListN.{length, getD, take, drop}
 use Rattle.word.specs.Words.{wordsOf}
-use Rattle.message.specs.declared.header.Kind.{Kind}
-use Rattle.message.specs.declared.answer.Status.{Status}
-use Rattle.message.specs.declared.answer.Seen.{Seen}
-use Rattle.message.specs.declared.answer.Look.{Look}
-use Rattle.message.specs.declared.answer.Look.the-variants.{Item, Bad}
-use Rattle.message.specs.declared.refusal.Refusal.{Refusal}
-use Rattle.message.specs.Limits.{limit, limitBytes}
-use Rattle.message.specs.Header.{kindOf, countOf, lastOf, bodyWords}
-use Rattle.message.specs.Walk.{refusal}
-use Rattle.message.specs.Request.{Command, Request, Reading, Wrong, Means, before, read, none, Stands}
-use Rattle.message.specs.Answer.{Answered, lookAt, lookTurn, answersFrom}
 use Rattle.word.proofs.Crossing.{length-wordsOf}
+use Rattle.header.specs.declared.Kind.{Kind}
+use Rattle.header.specs.declared.refusal.Refusal.{Refusal}
+use Rattle.header.specs.Limits.{limit, limitBytes}
+use Rattle.header.specs.Header.{kindOf, countOf, bodyWords}
+use Rattle.header.specs.Refusal.{refusal}
+use Rattle.message.specs.Request.{Command, Reading, Wrong, Means, before, none}
+use Rattle.message.specs.Walk.{read}
 use Rattle.message.proofs.Laws.Back.{written-read}
-use Rattle.message.proofs.Laws.Standing.{Next, stands-starts, stands-next}
-use Rattle.message.proofs.Laws.Looking.{looked, Found, found}
-use Rattle.initiator.specs.declared.outcome.Ending.{Ending}
+use Rattle.message.proofs.Laws.Standing.{Stands, Next, stands-starts, stands-next}
+use Rattle.answer.specs.declared.Status.{Status}
+use Rattle.answer.specs.declared.Seen.{Seen}
+use Rattle.answer.specs.declared.Look.{Look}
+use Rattle.answer.specs.declared.Look.the-variants.{Item, Bad}
+use Rattle.answer.specs.Answer.{Answered, lookAt, lookTurn, answersFrom}
+use Rattle.answer.proofs.Laws.Looking.{looked, Found, found}
 use Rattle.initiator.specs.declared.outcome.Ending.the-variants.{Absent, Ended}
 use Rattle.initiator.specs.declared.outcome.Outcome.{Outcome}
 use Rattle.initiator.specs.Outcome.{endingAt, partOf, partAt, refusedWith, toldOf, withItem, lookBeside, Ready, answersTo}

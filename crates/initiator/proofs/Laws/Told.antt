@@ -1,18 +1,20 @@
 -- What an answer tells, check by check. The proof of `told` cites these. Assumes nothing.
 use Prim.Native.Nat.{ℕ}
-use mathlib.Core.Path.{_≡_, refl, sym, ap, _∙_}
-use mathlib.Core.Bool.{Bool, true, false, cond}
+use mathlib.Core.Path.{_≡_, sym, ap, _∙_}
+use mathlib.Core.Bool.{true, false}
 use mathlib.Core.List.{List}
 use lib.ListN.{length, getD}
 use Rattle.word.specs.Words.{wordsOf, Bytes}
-use Rattle.message.specs.declared.refusal.Refusal.{Refusal}
-use Rattle.message.specs.Header.{kindOf, discoveryOf}
-use Rattle.message.specs.Walk.{refusedAt, refusal}
-use Rattle.message.specs.Request.{Request, Reading, Wrong, Means, read, lengthOk}
-use Rattle.message.specs.Answer.{answerByte, judge}
+use Rattle.header.specs.declared.refusal.Refusal.{Refusal}
+use Rattle.header.specs.Header.{kindOf, discoveryOf}
+use Rattle.header.specs.Refusal.{refusedAt, refusal}
+use Rattle.header.specs.Limits.{lengthOk}
+use Rattle.message.specs.Request.{Request, Wrong, Means}
+use Rattle.message.specs.Walk.{read}
 use Rattle.message.proofs.Laws.Going.{read-first}
-use Rattle.message.proofs.Laws.Looking.{judge-long, judge-whole}
-use Rattle.message.proofs.Laws.Judged.{other-byte}
+use Rattle.answer.specs.Answer.{answerByte, judge}
+use Rattle.answer.proofs.Laws.Looking.{judge-long, judge-whole}
+use Rattle.answer.proofs.Laws.Judged.{other-byte}
 use Rattle.initiator.specs.Outcome.{judgedBy, refusedWith, toldOf, outcomeOf, Ready, answersTo}
 
 module _ (request answer : List ℕ) (k : ℕ) where

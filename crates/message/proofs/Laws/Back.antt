@@ -1,50 +1,28 @@
 -- A datagram that reads as a meaning is that meaning's bytes, and the meaning fits. Whoever reads a request cites `written-read`.
 -- Assumes nothing.
-use Prim.Native.Nat.{ℕ, zero, suc, _+_, _*_, _/_, _%_, _<_, _≤_}
-use mathlib.Core.Path.{_≡_, refl, sym, ap, _∙_, subst}
-use mathlib.Core.Bool.{Bool, true, false, cond, false≢true}
+use Prim.Native.Nat.{ℕ, zero, suc, _+_, _<_, _≤_}
+use mathlib.Core.Path.{_≡_, refl, sym, ap}
+use mathlib.Core.Bool.{Bool, true, false, cond}
 use mathlib.Core.List.{List, [], _∷_, _++_, append-assoc}
 use native.Mathlib.Omega.{arith}
-use borrow.Author.Tests.{eqb-true, eqb-false, leb-true}
+use borrow.Author.Tests.{eqb-true, leb-true}
 use lib.Dec.{leb, eqb}
-use lib.ListN.{length, getD, take, drop, length-append, length-drop, take-append-drop, drop-of-length-le}
+use lib.ListN.{length, getD, drop, length-drop, take-append-drop, drop-of-length-le}
 use lib.Seq.{drop-drop, length-take-le}
-use Rattle.word.specs.Words.{bytesOf, wordsOf, Bytes, Words, Below}
+use Rattle.word.specs.Words.{wordsOf, Bytes, Words, Below}
 use Rattle.word.proofs.Runs.{below-take, below-drop, below-nth}
 use Rattle.word.proofs.Crossing.{bytes-back, words-below, length-wordsOf}
-use Rattle.message.specs.declared.header.Head.{Head}
-use Rattle.message.specs.declared.refusal.Refusal.{Refusal}
-use Rattle.message.specs.declared.walk.Step.{Step}
+use Rattle.header.specs.Limits.{limit, lengthOk}
+use Rattle.header.specs.Header.{kindOf, byte1Of, countOf, lastOf, headerFrom, addressWords, dataWords, bodyWords, headOf, endsOk}
+use Rattle.header.specs.Refusal.{refusedAt}
+use Rattle.header.proofs.Laws.Headers.{header-is, address-le}
+use Rattle.header.proofs.Laws.Lengths.{right}
 use Rattle.message.specs.declared.walk.Step.the-variants.{Read, Refused}
-use Rattle.message.specs.Limits.{limit, limitBytes}
-use Rattle.message.specs.Header.{kindOf, byte0Of, byte1Of, countOf, reservedOf, lastOf, headerFrom, addressWords, dataWords, bodyWords, headOf}
-use Rattle.message.specs.Walk.{refusedAt, asks, endsOk, stepOn}
-use Rattle.message.specs.Request.{Command, Request, Reading, Wrong, Means, addressFrom, addressIn, addressTop, commandOf, before, turn, commandsFrom, replies, ended, lengthOk, read, commandWords, none, requestWords, written, FitsCommand, All, FitsAsked, Fits}
-use Rattle.message.proofs.Laws.Headers.{header-is, address-le}
+use Rattle.message.specs.Faults.{asks}
+use Rattle.message.specs.Walk.{stepOn, commandOf, turn, commandsFrom, ended, read, asked}
+use Rattle.message.specs.Request.{Command, Request, Reading, Wrong, Means, before, replies, commandWords, none, requestWords, written, FitsCommand, All, Fits}
 use Rattle.message.proofs.Laws.Faults.{SoundBefore, sound, faultBefore, no-mean, past, before-is}
-
--- an address's words are rebuilt from it
-address-is : (n : ℕ) (ws : List ℕ) → n ≤ 2 → n ≤ length ws → Words ws → addressIn n (addressFrom n ws) ++ drop n ws ≡ ws
-unfolding addressIn addressFrom Below
-address-is zero ws h l e = refl
-address-is (suc zero) (w ∷ ws) h l e = refl
-address-is (suc (suc zero)) (w ∷ v ∷ ws) h l e =
-    let p : (w + 4294967296 * v) % 4294967296 ≡ w = omega (arith, e .0) in
-    let q : (w + 4294967296 * v) / 4294967296 ≡ v = omega (arith, e .0) in
-    rw (p, q)
-address-is (suc (suc (suc n))) ws h l e = absurd (omega arith)
-address-is (suc zero) [] h l e = absurd (omega arith)
-address-is (suc (suc zero)) [] h l e = absurd (omega arith)
-address-is (suc (suc zero)) (w ∷ []) h l e = absurd (omega arith)
-
-address-top : (n : ℕ) (ws : List ℕ) → n ≤ length ws → Words ws → addressFrom n ws < addressTop n
-unfolding addressFrom addressTop Below
-address-top zero ws l e = omega arith
-address-top (suc zero) [] l e = omega arith
-address-top (suc zero) (w ∷ ws) l e = omega (arith, e .0)
-address-top (suc (suc n)) (w ∷ v ∷ ws) l e = omega (arith, e .0, e .1 .0)
-address-top (suc (suc n)) [] l e = omega arith
-address-top (suc (suc n)) (w ∷ []) l e = absurd (omega arith)
+use Rattle.message.proofs.Laws.Addresses.{address-is, address-top}
 
 -- the command of a header that stands with its body
 module _ (byte0 h : ℕ) (rest : List ℕ) (s : SoundBefore byte0 h rest) (hw : h < 4294967296) (each : Words rest) where
@@ -136,21 +114,6 @@ ended-is byte0 (Means cs) r e =
     let q : record { byte0 = byte0; commands = cs } ≡ r = cc in
     (ap (λ (x : Request). x .byte0) (sym q), ap (λ (x : Request). Means (x .commands)) q, rw (← ap (λ (x : Request). x .commands) q) (leb-true _ _ (p .0)))
 
--- a right length, in numbers
-pub record Right (n : ℕ) : Type 0 where
-  pub some : 0 < n
-  pub whole : n % 4 ≡ 0
-  pub most : n ≤ limitBytes
-
-pub right : (n : ℕ) → lengthOk n ≡ true → Right n
-unfolding lengthOk
-right n e = go (eqb n 0) refl (eqb (n % 4) 0) refl e
-  where
-    go : (a : Bool) → eqb n 0 ≡ a → (b : Bool) → eqb (n % 4) 0 ≡ b → cond a false (cond b (leb n limitBytes) false) ≡ true → Right n
-    go true p b q e = absurd (false≢true e)
-    go false p false q e = absurd (false≢true e)
-    go false p true q e = let z = eqb-false n 0 p in record { some = omega arith; whole = eqb-true _ _ q; most = leb-true _ _ e }
-
 -- "a datagram that reads as a meaning is that meaning's bytes, and the meaning fits"
 pub written-read : (dg : List ℕ) (r : Request) → Bytes dg → read dg ≡ Means r → Fits r × (dg ≡ written r)
 unfolding read written
@@ -171,3 +134,11 @@ written-read dg r h m =
       },
       rw (b .is) (sym (bytes-back dg h (n .whole))),
     )
+
+-- what a datagram asks is what it means
+pub asked-is : (dg : List ℕ) (r : Request) → read dg ≡ Means r → asked dg ≡ r
+unfolding asked
+asked-is dg r e = rw e
+
+pub means-asked : (dg : List ℕ) (r : Request) → read dg ≡ Means r → read dg ≡ Means (asked dg)
+means-asked dg r e = rw (asked-is dg r e) e

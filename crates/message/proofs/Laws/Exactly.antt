@@ -12,18 +12,22 @@ use lib.ListN.{length, getD, drop, length-append}
 use Rattle.word.specs.Words.{wordsOf, Bytes, Words, Below}
 use Rattle.word.proofs.Runs.{below-nth}
 use Rattle.word.proofs.Crossing.{bytes-back, words-below, length-wordsOf}
-use Rattle.message.specs.declared.header.Kind.{Kind}
-use Rattle.message.specs.declared.header.Kind.the-variants.{Nop, Write, Read as Reads, Response}
-use Rattle.message.specs.declared.refusal.Refusal.{Refusal}
+use Rattle.header.specs.declared.Kind.{Kind}
+use Rattle.header.specs.declared.Kind.the-variants.{Nop, Write, Read as Reads, Response}
+use Rattle.header.specs.declared.refusal.Refusal.{Refusal}
+use Rattle.header.specs.Limits.{limit, lengthOk}
+use Rattle.header.specs.Header.{kindOf, byte0Of, byte1Of, countOf, reservedOf, lastOf, addressWords, bodyWords, headOf, endsOk}
+use Rattle.header.specs.Refusal.{refusedAt, refusal}
+use Rattle.header.proofs.Laws.Refusals.{Between, unless-between, Further, further-here, further-on, further-at, number-is, at-is}
+use Rattle.header.proofs.Laws.Lengths.{right}
 use Rattle.message.specs.declared.walk.Step.the-variants.{Read, Refused}
-use Rattle.message.specs.Limits.{limit}
-use Rattle.message.specs.Header.{kindOf, byte0Of, byte1Of, countOf, reservedOf, lastOf, addressWords, bodyWords, headOf}
-use Rattle.message.specs.Walk.{refusedAt, refusal, asks, countOk, enablesOk, endsOk, faultOf, stepOn}
-use Rattle.message.specs.Request.{Command, Request, Reading, Wrong, Means, commandOf, before, turn, commandsFrom, replies, ended, lengthOk, read, commandWords, written, FitsCommand, All}
-use Rattle.message.specs.Refusals.{openWords, faultIn, FaultAfter, TooLong, Exactly}
-use Rattle.message.proofs.Laws.Faults.{Between, unless-between, Further, further-here, further-on, further-at, SoundBefore, sound, faultBefore, step-refused, no-mean, same-refusal, number-is, at-is, before-wrong}
+use Rattle.message.specs.Faults.{asks, countOk, enablesOk, faultOf}
+use Rattle.message.specs.Walk.{stepOn, commandOf, turn, commandsFrom, ended, read}
+use Rattle.message.specs.Request.{Command, Request, Reading, Wrong, Means, before, replies, commandWords, written, FitsCommand, All}
+use Rattle.message.specs.Exactly.{openWords, faultIn, FaultAfter, TooLong, Exactly}
+use Rattle.message.proofs.Laws.Faults.{SoundBefore, sound, faultBefore, step-refused, no-mean, same-refusal, before-wrong}
 use Rattle.message.proofs.Laws.Round.{command-long, one-back, read-asked, read-written}
-use Rattle.message.proofs.Laws.Back.{one-fits, one-is, commands-backed, right, written-read}
+use Rattle.message.proofs.Laws.Back.{one-fits, one-is, commands-backed, written-read}
 
 -- no fault, or one of 3 to 9
 fault-walks : (byte0 h left address : ℕ) → Between 3 9 (faultOf byte0 h left address)

@@ -1,55 +1,24 @@
 -- A header's faults and a reading's checks, passed one by one. The laws of requests and answers cite these. Assumes nothing.
-use Prim.Native.Nat.{ℕ, zero, suc, _+_, _-_, _*_, _/_, _%_, _<_, _≤_}
-use mathlib.Core.Path.{_≡_, refl, sym, ap, _∙_, subst}
+use Prim.Native.Nat.{ℕ, zero, suc, _+_, _*_, _/_, _%_, _<_, _≤_}
+use mathlib.Core.Path.{_≡_, refl, sym, ap, _∙_}
 use mathlib.Core.Bool.{Bool, true, false, not, cond, _&&_, or-true, and-eq-true-iff, false≢true}
-use mathlib.Core.List.{List, [], _∷_, _++_}
+use mathlib.Core.List.{List, [], _∷_}
 use native.Mathlib.Nat.{add-zero, div-div-eq-div-mul, mul-mod-right}
 use native.Mathlib.Omega.{arith}
 use borrow.Author.Tests.{eqb-true, eqb-false, leb-true, eq-eqb, ne-eqb, le-leb}
-use lib.Dec.{ltb, leb, eqb}
+use lib.Dec.{leb, eqb}
 use lib.ListN.{length, getD, drop}
 use lib.Seq.{getD-drop}
-use Rattle.message.specs.declared.header.Head.{Head}
-use Rattle.message.specs.declared.refusal.Refusal.{Refusal}
-use Rattle.message.specs.declared.walk.Step.{Step}
+use Rattle.header.specs.declared.refusal.Refusal.{Refusal}
+use Rattle.header.specs.declared.Kind.the-variants.{Write}
+use Rattle.header.specs.Header.{kindOf, wideOf, byte0Of, byte1Of, firstOf, finalOf, countOf, reservedOf, lastOf, bit, addressWords, bodyWords, headOf, endsOk}
+use Rattle.header.specs.Refusal.{refusedAt}
+use Rattle.header.proofs.Laws.Refusals.{passed}
 use Rattle.message.specs.declared.walk.Step.the-variants.{Read, Refused}
-use Rattle.message.specs.declared.header.Kind.the-variants.{Write}
-use Rattle.message.specs.Header.{kindOf, wideOf, byte0Of, byte1Of, firstOf, finalOf, countOf, reservedOf, lastOf, bit, addressWords, dataWords, bodyWords, headOf}
-use Rattle.message.specs.Walk.{refusedAt, asks, countOk, gapsOk, firstOk, finalOk, gapless, patternOk, enablesOk, endsOk, unless, faultOf, stepOn}
-use Rattle.message.specs.Request.{Reading, Wrong, Means, addressFrom, before, commandsFrom}
-
--- a check that found no fault
-pub passed : (ok : Bool) (n x : ℕ) → 0 < n → unless ok n x ≡ 0 → (ok ≡ true) × (x ≡ 0)
-passed true n x h e = (refl, e)
-passed false n x h e = absurd (omega arith)
-
--- no fault, or one whose number lies between two
-abbrev pub Between : ℕ → ℕ → ℕ → Type 0
-Between low high n = (n ≡ 0 → ⊥) → (low ≤ n) × (n ≤ high)
-
-pub unless-between : (low high : ℕ) (ok : Bool) (n x : ℕ) → low ≤ n → n ≤ high → Between low high x → Between low high (unless ok n x)
-unless-between low high true n x h k b = b
-unless-between low high false n x h k b = λ z. (h, k)
-
--- a refusal from word `at` on: a fault between two numbers, `on` words further
-pub record Further (low high : ℕ) (After : ℕ → ℕ → Type 0) (at : ℕ) (r : Refusal) : Type 0 where
-  pub least : low ≤ r .number
-  pub most : r .number ≤ high
-  pub on : ℕ
-  pub after : After (r .number) on
-  pub place : at + on ≡ r .at
-
--- at that word itself; behind k words more; and, from word 0 on, at its own index
-pub further-here : {low high : ℕ} {After : ℕ → ℕ → Type 0} (n at : ℕ) → low ≤ n → n ≤ high → After n 0 → Further low high After at (refusedAt n at)
-further-here n at h k a = record { least = h; most = k; on = 0; after = a; place = add-zero at }
-
-pub further-on : {low high : ℕ} {Behind After : ℕ → ℕ → Type 0} {r : Refusal} (at k next : ℕ) → next ≡ at + k → ((n on : ℕ) → Behind n on → After n (k + on))
-    → Further low high Behind next r → Further low high After at r
-further-on {r = r} at k next e more f =
-    record { least = f .least; most = f .most; on = k + f .on; after = more (r .number) (f .on) (f .after); place = omega (arith, e, f .place) }
-
-pub further-at : {low high : ℕ} {After : ℕ → ℕ → Type 0} (n at : ℕ) → Further low high After 0 (refusedAt n at) → After n at
-further-at {After = After} n at f = let place : f .on ≡ at = omega (arith, f .place) in subst (After n) place (f .after)
+use Rattle.message.specs.Faults.{asks, countOk, gapsOk, firstOk, finalOk, gapless, patternOk, enablesOk, faultOf}
+use Rattle.message.specs.Walk.{stepOn, commandsFrom}
+use Rattle.message.specs.Request.{Reading, Wrong, Means, before}
+use Rattle.message.specs.Address.{addressFrom}
 
 -- what stands in a header without fault
 pub record Sound (byte0 h left address : ℕ) : Type 0 where
@@ -178,13 +147,6 @@ no-mean e = let z : _≡_ {A = ℕ} 0 1 = cc in absurd (omega arith)
 
 pub same-refusal : {A : Type 0} {q r : Refusal} → _≡_ {A = Reading A} (Wrong q) (Wrong r) → q ≡ r
 same-refusal e = cc
-
--- a refusal's number and its index
-pub number-is : {q r : Refusal} → q ≡ r → q .number ≡ r .number
-number-is e = ap (λ (x : Refusal). x .number) e
-
-pub at-is : {q r : Refusal} → q ≡ r → q .at ≡ r .at
-at-is e = ap (λ (x : Refusal). x .at) e
 
 -- a check that let a reading by
 pub past : {A : Type 0} (ok : Bool) (r : Refusal) (x : Reading A) {a : A} → cond ok x (Wrong r) ≡ Means a → (ok ≡ true) × (x ≡ Means a)

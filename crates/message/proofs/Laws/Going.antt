@@ -1,30 +1,33 @@
 -- The walk by positions, as its loop goes. The proofs of `walk` cite these. Assumes nothing.
-use Prim.Native.Nat.{ℕ, zero, suc, _+_, _-_, _*_, _/_, _%_, _<_, _≤_}
+use Prim.Native.Nat.{ℕ, _+_, _-_, _*_, _<_, _≤_}
 use mathlib.Core.Path.{_≡_, refl, sym, ap, _∙_}
-use mathlib.Core.List.{List, [], _∷_, _++_}
+use mathlib.Core.List.{List, _∷_}
 use mathlib.Core.Bool.{Bool, true, false, cond}
 use native.Mathlib.Omega.{arith}
 use native.Mathlib.Numerals.{add-one}
+use borrow.Author.Tests.{eqb-true, ltb-true, ltb-false}
 use lib.ListN.{length, getD, drop, length-drop, drop-of-length-le}
 use lib.Dec.{ltb, leb, eqb}
 use lib.Seq.{drop-cons, drop-drop}
-use borrow.Author.Tests.{eqb-true, ltb-true, ltb-false, le-leb}
 use Rattle.word.specs.Words.{wordsOf}
-use Rattle.message.specs.declared.header.Kind.{Kind}
-use Rattle.message.specs.declared.header.Kind.the-variants.{Nop, Write, Read as Reads, Response}
-use Rattle.message.specs.declared.header.Head.{Head}
-use Rattle.message.specs.declared.refusal.Refusal.{Refusal}
+use Rattle.header.specs.declared.Kind.{Kind}
+use Rattle.header.specs.declared.Kind.the-variants.{Nop, Write, Read as Reads, Response}
+use Rattle.header.specs.declared.Head.{Head}
+use Rattle.header.specs.declared.refusal.Refusal.{Refusal}
+use Rattle.header.specs.Limits.{limit, lengthOk}
+use Rattle.header.specs.Header.{kindOf, countOf, addressWords, bodyWords, replyWords, headOf}
+use Rattle.header.specs.Refusal.{refusedAt, refusal}
+use Rattle.header.proofs.Laws.Headers.{reply-le}
+use Rattle.header.proofs.Laws.Lengths.{Right, right}
 use Rattle.message.specs.declared.walk.Step.{Step}
 use Rattle.message.specs.declared.walk.Step.the-variants.{Read, Refused}
-use Rattle.message.specs.declared.walk.Walked.{Walked}
 use Rattle.message.specs.declared.walk.Walked.the-variants.{WellFormed, Malformed}
-use Rattle.message.specs.Limits.{limit}
-use Rattle.message.specs.Header.{kindOf, countOf, lastOf, addressWords, bodyWords, replyWords, headOf}
-use Rattle.message.specs.Walk.{refusedAt, refusal, faultOf, stepOn}
-use Rattle.message.specs.Request.{Command, Request, Reading, Wrong, Means, addressFrom, commandOf, before, turn, commandsFrom, stepAt, replies, ended, endOf, finish, walked, lengthOk, read, walkOf}
-use Rattle.message.proofs.Laws.Headers.{reply-le}
-use Rattle.message.proofs.Laws.Faults.{Sound, sound, skipped, past}
-use Rattle.message.proofs.Laws.Back.{Right, right, ended-is}
+use Rattle.message.specs.Faults.{faultOf}
+use Rattle.message.specs.Walk.{stepOn, commandOf, turn, commandsFrom, stepAt, ended, endOf, finish, walked, read, walkOf}
+use Rattle.message.specs.Request.{Command, Request, Reading, Wrong, Means, before, replies}
+use Rattle.message.specs.Address.{addressFrom}
+use Rattle.message.proofs.Laws.Faults.{sound, skipped, past}
+use Rattle.message.proofs.Laws.Back.{ended-is}
 
 -- a step whose words behind it read the same
 turn-same : (s : Step) (c : Command) (f g : ℕ → Reading (List Command)) → ((n : ℕ) → f n ≡ g n) → turn s c f ≡ turn s c g

@@ -1,56 +1,35 @@
 -- A request's words piece by piece: an address, a command, one command more. Whoever writes a request cites these. Assumes nothing.
-use Prim.Native.Nat.{ℕ, _+_, _/_, _%_, _<_, _≤_}
+use Prim.Native.Nat.{ℕ, _+_, _%_, _<_, _≤_}
 use mathlib.Core.Path.{_≡_, refl, sym, _∙_}
 use mathlib.Core.Bool.{Bool, true, false, cond, not, _&&_, _||_, false≢true}
 use mathlib.Core.List.{List, [], _∷_, _++_, append-assoc, append-nil}
 use native.Mathlib.Omega.{arith}
-use lib.Dec.{eqb}
 use lib.ListN.{length, getD}
-use Rattle.word.specs.Words.{wordsOf, bytesOf, Words, Below}
+use lib.Dec.{eqb}
+use Rattle.word.specs.Words.{bytesOf, wordsOf, Words, Below}
 use Rattle.word.proofs.Runs.{below-append}
 use Rattle.word.proofs.Crossing.{words-back, bytes-below}
-use Rattle.message.specs.Limits.{limit}
-use Rattle.message.specs.Header.{kindOf, headerFrom, addressWords, replyWords}
-use Rattle.message.specs.Walk.{refusedAt, refusal, asks, gapless, patternOk}
-use Rattle.message.specs.Request.{Command, Wrong, addressIn, addressTop, lengthOk, read, commandWords, none, requestWords, written, replies, All, FitsCommand}
-use Rattle.message.specs.Refusals.{openWords, faultIn, FaultAfter}
-use Rattle.message.proofs.Laws.Headers.{byte0-back}
+use Rattle.header.specs.Header.{kindOf, headerFrom, replyWords, addressWords}
+use Rattle.header.specs.Limits.{lengthOk, limit}
+use Rattle.header.specs.Refusal.{refusedAt, refusal}
+use Rattle.header.proofs.Laws.Headers.{byte0-back}
+use Rattle.message.specs.Request.{Command, All, replies, none, Wrong, commandWords, requestWords, written, FitsCommand}
+use Rattle.message.specs.Address.{addressIn}
+use Rattle.message.specs.Walk.{read}
+use Rattle.message.specs.Faults.{asks, gapless, patternOk}
+use Rattle.message.specs.Exactly.{openWords, faultIn, FaultAfter}
 use Rattle.message.proofs.Laws.Round.{none-before, command-words, length-right}
 use Rattle.message.proofs.Laws.Exactly.{exactly, counted-asks}
 
--- an address of none, one and two words, and what they can carry
-pub address-none : (a : ℕ) → addressIn 0 a ≡ []
-unfolding addressIn
-address-none a = refl
+-- what holds of all holds of the first and of the rest
+module _ {A : Type 0} (P : A → Type 0) (x : A) (xs : List A) where
+  pub all-first : All P (x ∷ xs) → P x
+  unfolding All
+  all-first h = h .0
 
-pub address-one : (a : ℕ) → addressIn 1 a ≡ a ∷ []
-unfolding addressIn
-address-one a = refl
-
-pub address-two : (a : ℕ) → addressIn 2 a ≡ a % 4294967296 ∷ a / 4294967296 ∷ []
-unfolding addressIn
-address-two a = refl
-
-pub top-none : addressTop 0 ≡ 1
-unfolding addressTop
-top-none = refl
-
-pub top-one : addressTop 1 ≡ 4294967296
-unfolding addressTop
-top-one = refl
-
-pub top-two : addressTop 2 ≡ 18446744073709551616
-unfolding addressTop
-top-two = refl
-
--- a header with LAST is the one without it, with bit 31
-pub header-last : (b e n : ℕ) → headerFrom b e n true ≡ headerFrom b e n false + 2147483648
-unfolding headerFrom
-header-last b e n = omega arith
-
-pub header-low : (b e n : ℕ) → b < 256 → e < 256 → n < 4096 → headerFrom b e n false < 2147483648
-unfolding headerFrom
-header-low b e n hb he hn = omega arith
+  pub all-rest : All P (x ∷ xs) → All P xs
+  unfolding All
+  all-rest h = h .1
 
 -- a command's words: header, address, data
 pub command-pieces : (byte0 : ℕ) (last : Bool) (c : Command)

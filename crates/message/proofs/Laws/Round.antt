@@ -1,37 +1,26 @@
 -- A fitting request's bytes read as itself. Whoever writes a request cites `read-written`. Assumes nothing.
-use Prim.Native.Nat.{ℕ, zero, suc, _+_, _*_, _/_, _%_, _<_, _≤_}
-use mathlib.Core.Path.{_≡_, refl, sym, ap, _∙_}
+use Prim.Native.Nat.{ℕ, _+_, _<_, _≤_}
+use mathlib.Core.Path.{_≡_, refl, sym, _∙_}
 use mathlib.Core.Bool.{Bool, true, false, cond, false≢true}
-use mathlib.Core.List.{List, [], _∷_, _++_, append-assoc, append-nil}
+use mathlib.Core.List.{List, [], _∷_, _++_, append-assoc}
 use native.Mathlib.Omega.{arith}
-use borrow.Author.Tests.{eq-eqb, ne-eqb, le-leb}
-use lib.Dec.{leb, eqb}
-use lib.ListN.{length, getD, take, drop, length-append}
+use borrow.Author.Tests.{eq-eqb, le-leb}
+use lib.ListN.{length, getD, length-append}
 use lib.Seq.{take-at, drop-at}
-use Rattle.word.specs.Words.{bytesOf, wordsOf, Words}
+use Rattle.word.specs.Words.{bytesOf, Words}
 use Rattle.word.proofs.Runs.{below-append, length-bytes}
 use Rattle.word.proofs.Crossing.{words-back}
-use Rattle.message.specs.declared.walk.Step.the-variants.{Read, Refused}
-use Rattle.message.specs.Limits.{limit, limitBytes}
-use Rattle.message.specs.Header.{kindOf, byte0Of, byte1Of, countOf, reservedOf, lastOf, headerFrom, addressWords, dataWords, bodyWords, headOf}
-use Rattle.message.specs.Walk.{asks, endsOk, stepOn}
-use Rattle.message.specs.Request.{Command, Request, Reading, Wrong, Means, addressFrom, addressIn, addressTop, commandOf, before, commandsFrom, replies, ended, lengthOk, read, commandWords, none, requestWords, written, FitsCommand, All, FitsAsked, Fits}
-use Rattle.message.proofs.Laws.Headers.{byte0-back, byte1-back, count-back, reserved-back, last-back, header-lt, address-le}
+use Rattle.header.specs.Limits.{limit, lengthOk}
+use Rattle.header.specs.Header.{kindOf, byte1Of, countOf, headerFrom, addressWords, bodyWords, headOf, endsOk}
+use Rattle.header.proofs.Laws.Headers.{byte0-back, byte1-back, count-back, reserved-back, last-back, header-lt, address-le}
+use Rattle.header.proofs.Laws.Lengths.{length-fits}
+use Rattle.message.specs.declared.walk.Step.the-variants.{Read}
+use Rattle.message.specs.Faults.{asks}
+use Rattle.message.specs.Walk.{stepOn, commandOf, commandsFrom, ended, read}
+use Rattle.message.specs.Request.{Command, Request, Means, before, commandWords, none, requestWords, written, FitsCommand, All, FitsAsked, Fits}
+use Rattle.message.specs.Address.{addressFrom, addressIn}
 use Rattle.message.proofs.Laws.Faults.{Sound, faultless, step-read, skipped}
-
--- an address is read back from its words
-pub address-long : (n a : ℕ) → n ≤ 2 → length (addressIn n a) ≡ n
-unfolding addressIn
-address-long zero a h = refl
-address-long (suc zero) a h = refl
-address-long (suc (suc zero)) a h = refl
-address-long (suc (suc (suc n))) a h = absurd (omega arith)
-
-pub address-back : (n a : ℕ) (r : List ℕ) → a < addressTop n → addressFrom n (addressIn n a ++ r) ≡ a
-unfolding addressIn addressFrom addressTop
-address-back zero a r h = omega arith
-address-back (suc zero) a r h = refl
-address-back (suc (suc n)) a r h = omega arith
+use Rattle.message.proofs.Laws.Addresses.{address-long, address-back, address-words}
 
 -- a fitting command's words
 pub command-long : (byte0 : ℕ) (last : Bool) (c : Command) → FitsCommand byte0 c → length (commandWords byte0 last c) ≡ 1 + bodyWords byte0 (c .count)
@@ -39,12 +28,6 @@ unfolding commandWords
 command-long byte0 last c f =
     let ad : List ℕ = addressIn (addressWords byte0) (c .address) in
     omega (arith, length-append ad (c .payload), address-long (addressWords byte0) (c .address) (address-le byte0), f .long)
-
-address-words : (n a : ℕ) → a < addressTop n → Words (addressIn n a)
-unfolding addressIn addressTop Rattle.word.specs.Words.Below
-address-words zero a h = tt
-address-words (suc zero) a h = (h, tt)
-address-words (suc (suc n)) a h = (omega arith, (omega arith, tt))
 
 -- something follows
 pub none-before : {A : Type 0} (xs : List A) (y : A) (ys : List A) → none (xs ++ y ∷ ys) ≡ false
@@ -154,10 +137,9 @@ request-some byte0 (c ∷ cs) h = omega arith
 
 -- the length of some words' bytes is right where there are some words and not too many
 pub length-right : (ws : List ℕ) → 0 < length ws → length ws ≤ limit → lengthOk (length (bytesOf ws)) ≡ true
-unfolding lengthOk
 length-right ws h k =
     let n = length-bytes ws in
-    rw (ne-eqb (length (bytesOf ws)) 0 (omega arith), eq-eqb (length (bytesOf ws) % 4) 0 (omega arith), le-leb (length (bytesOf ws)) limitBytes (omega arith))
+    length-fits (length (bytesOf ws)) (omega arith) (omega arith) (omega arith)
 
 -- but for 10, a fitting request's bytes read as its commands
 pub read-asked : (r : Request) → FitsAsked r → read (written r) ≡ ended (r .byte0) (Means (r .commands))

@@ -1,40 +1,27 @@
 -- A second pass over an accepted datagram: the next command, and where the one behind it stands. Whoever carries a request out, or
 -- takes an answer to it, cites `stands-starts` and `stands-next`. Assumes nothing.
-use Prim.Native.Nat.{ℕ, zero, suc, _+_, _*_, _-_, _<_, _≤_}
-use mathlib.Core.Path.{_≡_, refl, sym, ap, _∙_}
-use mathlib.Core.Bool.{Bool, true, false}
-use mathlib.Core.List.{List, [], _∷_, _++_, append-assoc}
+use Prim.Native.Nat.{ℕ, _+_, _-_, _<_, _≤_}
+use mathlib.Core.Path.{_≡_, sym, ap, _∙_}
+use mathlib.Core.List.{List, _∷_, _++_, append-assoc}
 use native.Mathlib.Omega.{arith}
-use native.Mathlib.Nat.{add-zero}
 use lib.ListN.{length, getD, take, drop, length-append, length-drop}
 use lib.Seq.{take-at, drop-at, drop-drop, getD-drop}
 use Rattle.word.specs.Words.{wordsOf, Bytes}
 use Rattle.word.proofs.Crossing.{words-back}
-use Rattle.message.specs.Limits.{limit}
-use Rattle.message.specs.Header.{kindOf, byte1Of, countOf, lastOf, headerFrom, addressWords, dataWords, bodyWords}
-use Rattle.message.specs.Request.{Command, Request, Reading, Means, addressFrom, addressIn, read, commandWords, none, requestWords, written, FitsCommand, All, Fits, Stands}
-use Rattle.message.proofs.Laws.Headers.{byte1-back, count-back, last-back, address-le}
-use Rattle.message.proofs.Laws.Round.{address-long, address-back, body-long, request-words}
+use Rattle.header.specs.Header.{kindOf, byte1Of, countOf, lastOf, headerFrom, addressWords, dataWords, bodyWords}
+use Rattle.header.proofs.Laws.Headers.{byte1-back, count-back, last-back, address-le}
+use Rattle.message.specs.Request.{Command, Request, Means, commandWords, none, requestWords, written, FitsCommand, All}
+use Rattle.message.specs.Address.{addressFrom, addressIn}
+use Rattle.message.specs.Walk.{read}
+use Rattle.message.proofs.Laws.Addresses.{address-long, address-back}
+use Rattle.message.proofs.Laws.Round.{request-words}
 use Rattle.message.proofs.Laws.Back.{written-read}
 
--- an address in none, one or two words from word `at` on
-module _ (n : ℕ) (ws : List ℕ) (at : ℕ) where
-  pub address-none : n ≡ 0 → 0 ≡ addressFrom n (drop at ws)
-  unfolding addressFrom
-  address-none e = rw e
-
-  pub address-one : n ≡ 1 → getD ws at 0 ≡ addressFrom n (drop at ws)
-  unfolding addressFrom
-  address-one e = rw (e, getD-drop at ws 0 0, add-zero at)
-
-  pub address-two : (n ≡ 0 → ⊥) → (n ≡ 1 → ⊥) → getD ws at 0 + 4294967296 * getD ws (at + 1) 0 ≡ addressFrom n (drop at ws)
-  unfolding addressFrom
-  address-two a b = go n a b
-    where
-      go : (n : ℕ) → (n ≡ 0 → ⊥) → (n ≡ 1 → ⊥) → getD ws at 0 + 4294967296 * getD ws (at + 1) 0 ≡ addressFrom n (drop at ws)
-      go zero a b = absurd (a refl)
-      go (suc zero) a b = absurd (b refl)
-      go (suc (suc m)) a b = rw (getD-drop at ws 0 0, getD-drop at ws 1 0, add-zero at)
+-- from word `at` on, the words ws are the writing of the commands cs: what a second pass goes by, which judges nothing again
+pub record Stands (byte0 : ℕ) (ws : List ℕ) (at : ℕ) (cs : List Command) : Type 0 where
+  pub byte : byte0 < 256
+  pub fit : All (FitsCommand byte0) cs
+  pub is : drop at ws ≡ requestWords byte0 cs
 
 -- an accepted datagram's commands stand in it from its first word on
 pub stands-starts : (dg : List ℕ) (r : Request) → Bytes dg → read dg ≡ Means r → Stands (r .byte0) (wordsOf dg) 0 (r .commands)

@@ -1,6 +1,5 @@
 -- `word::word_at` meets its contract: a word is found by its number. Assumes nothing.
 use native.Mathlib.Omega.{arith}
-use mathlib.Core.Path.{_∙_, sym}
 use Rattle.word.proofs.Crossing.{word-nth}
 use borrow.Author.Needs.{needs}
 use Rattle.word.proofs.word_at.Statement.{statement}

@@ -1,6 +1,6 @@
 -- `completer::serving::serve` meets its contract: the verdict decides. Assumes nothing.
 use mathlib.Core.Path.{sym, _∙_}
-use Rattle.completer.specs.Carrying.{asked}
+use Rattle.message.specs.Walk.{asked}
 use Rattle.completer.proofs.Laws.Verdicts.{carrying, again-fits, served-carried, served-by}
 use borrow.Author.Needs.{needs}
 use Rattle.completer.proofs.serving.serve.Statement.{statement}

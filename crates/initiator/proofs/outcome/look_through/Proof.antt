@@ -7,11 +7,11 @@ use denote.Ref.{now}
 use lib.ListN.{length}
 use Rattle.word.specs.Words.{wordsOf}
 use Rattle.word.proofs.Crossing.{length-wordsOf}
-use Rattle.message.specs.declared.answer.Look.the-variants.{Item, Bad}
-use Rattle.message.specs.declared.refusal.Refusal.{Refusal}
-use Rattle.message.specs.Header.{kindOf, bodyWords}
-use Rattle.message.specs.Request.{read}
-use Rattle.initiator.specs.Outcome.{badOf, refusedWith, toldOf, lookBeside, answersTo}
+use Rattle.answer.specs.declared.Look.the-variants.{Item}
+use Rattle.header.specs.Header.{kindOf}
+use Rattle.message.specs.Walk.{read}
+use Rattle.answer.specs.Answer.{badOf}
+use Rattle.initiator.specs.Outcome.{refusedWith, toldOf, lookBeside, answersTo}
 use Rattle.initiator.proofs.Laws.Telling.{Sides, next, sides-starts, sides-bad, sides-found, sides-last, sides-next}
 use Rattle.initiator.proofs.outcome.look_through.Statement.{statement}
 use Rattle.initiator.proofs.outcome.look_through.Tie as tie

@@ -7,9 +7,9 @@ use denote.Ref.{now}
 use lib.ListN.{getD}
 use Rattle.word.specs.Words.{Bytes}
 use Rattle.word.proofs.Runs.{below-all}
-use Rattle.message.specs.Header.{kindOf}
-use Rattle.message.specs.Request.{read}
-use Rattle.initiator.proofs.Laws.Parts.{Holds, part-holds}
+use Rattle.header.specs.Header.{kindOf}
+use Rattle.message.specs.Walk.{read}
+use Rattle.initiator.proofs.Laws.Parts.{part-holds}
 use borrow.Author.Needs.{needs}
 use Rattle.initiator.proofs.outcome.read_data.Statement.{statement}
 use Rattle.initiator.proofs.outcome.read_data.Tie as tie

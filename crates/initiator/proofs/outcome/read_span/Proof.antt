@@ -4,10 +4,10 @@ use denote.Ref.{now}
 use lib.ListN.{getD}
 use Rattle.word.specs.Words.{Bytes}
 use Rattle.word.proofs.Runs.{below-all}
-use Rattle.message.specs.Header.{kindOf}
-use Rattle.message.specs.Request.{read}
+use Rattle.header.specs.Header.{kindOf}
+use Rattle.message.specs.Walk.{read}
 use Rattle.initiator.specs.Outcome.{outcomeOf, toldOf}
-use Rattle.initiator.proofs.Laws.Parts.{Holds, part-holds}
+use Rattle.initiator.proofs.Laws.Parts.{part-holds}
 use borrow.Author.Needs.{needs}
 use Rattle.initiator.proofs.outcome.read_span.Statement.{statement}
 use Rattle.initiator.proofs.outcome.read_span.Tie as tie

@@ -7,11 +7,12 @@ use mathlib.Core.Bool.{true, false}
 use Rattle.word.specs.Words.{Bytes}
 use Rattle.word.proofs.Rules.{flag-on, flag-off}
 use Rattle.word.proofs.Runs.{below-all}
-use Rattle.message.specs.Header.{discoveryOf}
-use Rattle.message.specs.Request.{lengthOk}
-use Rattle.message.proofs.Laws.Back.{right}
+use Rattle.header.specs.Header.{discoveryOf}
+use Rattle.header.specs.Limits.{lengthOk}
+use Rattle.header.proofs.Laws.Lengths.{right}
 use Rattle.message.proofs.Laws.Going.{Meant, walk-means, walk-wrong, read-first}
-use Rattle.initiator.specs.Outcome.{refusedWith, malformedBy}
+use Rattle.initiator.specs.Outcome.{refusedWith}
+use Rattle.initiator.specs.Asking.{malformedBy}
 use Rattle.initiator.proofs.Laws.Told.{told-wrong, ready, told-discovery, told-long, told-byte, told-through}
 use borrow.Author.Needs.{needs}
 use Rattle.initiator.proofs.outcome.told.Statement.{statement}

@@ -5,11 +5,11 @@ use native.Mathlib.Omega.{arith}
 use lib.Dec.{eqb}
 use denote.Ref.{now}
 use Rattle.word.proofs.Rules.{eqb-on, eqb-off}
-use Rattle.message.specs.Header.{tagOf}
-use Rattle.message.specs.Walk.{refusal, unless}
-use Rattle.message.specs.Request.{read}
+use Rattle.header.specs.Header.{tagOf}
+use Rattle.header.specs.Refusal.{refusal, unless}
+use Rattle.message.specs.Walk.{read}
 use Rattle.message.proofs.Laws.Going.{Meant, walk-means, walk-wrong, read-first}
-use Rattle.initiator.specs.Outcome.{malformedBy}
+use Rattle.initiator.specs.Asking.{malformedBy}
 use Rattle.initiator.specs.Sender.{askFault}
 use Rattle.initiator.proofs.Laws.Sending.{fault-wrong, asks-discovery, asks-tag, fault-right}
 use borrow.Author.Needs.{needs}

@@ -5,8 +5,11 @@ use borrow.Author.Needs.{needs}
 use Rattle.initiator.proofs.sender.next_after.Statement.{statement}
 use Rattle.initiator.proofs.sender.next_after.Tie as tie
 
-add-result : tie.Need-add-result
-add-result c = search needs
+tag-requires : tie.Need-tag-requires
+tag-requires c κs = search needs
+
+next-tag-requires : tie.Need-next-tag-requires
+next-tag-requires c κs = search needs
 
 returns : tie.Need-returns
 unfolding nextAfter
@@ -14,7 +17,7 @@ returns c = search tests
 
 returns-2 : tie.Need-returns-2
 unfolding nextAfter
-returns-2 c = search tests
+returns-2 c = search (tests, ← c .before .tag .ensures .0, c .next-tag .ensures .0)
 
 pub next-after-spec : {M : Type 1} → statement M
-next-after-spec = tie.close (tie.spec add-result returns returns-2)
+next-after-spec = tie.close (tie.spec tag-requires next-tag-requires returns returns-2)

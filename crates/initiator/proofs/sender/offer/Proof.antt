@@ -1,6 +1,6 @@
 -- `initiator::sender::offer` meets its contract: accepted or refused. Assumes nothing.
 use Rattle.word.proofs.Rules.{eqb-on, eqb-off}
-use Rattle.message.proofs.Laws.Faults.{number-is}
+use Rattle.header.proofs.Laws.Refusals.{number-is}
 use Rattle.initiator.specs.Sender.{offerOf}
 use borrow.Author.Needs.{needs}
 use Rattle.initiator.proofs.sender.offer.Statement.{statement}

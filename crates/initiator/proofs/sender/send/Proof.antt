@@ -1,6 +1,6 @@
 -- `initiator::sender::send` meets its contract: the lent message, or nothing. Assumes nothing.
 use Rattle.word.proofs.Rules.{eqb-on, eqb-off}
-use Rattle.message.proofs.Laws.Faults.{number-is}
+use Rattle.header.proofs.Laws.Refusals.{number-is}
 use Rattle.initiator.specs.Sender.{sendOf}
 use borrow.Author.Needs.{needs}
 use Rattle.initiator.proofs.sender.send.Statement.{statement}

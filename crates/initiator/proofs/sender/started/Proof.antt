@@ -1,5 +1,4 @@
 -- `initiator::sender::started` meets its contract: by the word. Assumes nothing.
-use mathlib.Core.Path.{_∙_}
 use Rattle.word.proofs.Rules.{flag-on, flag-off}
 use Rattle.initiator.specs.Sender.{startedAt}
 use Rattle.initiator.proofs.Laws.Starting.{word-lt}

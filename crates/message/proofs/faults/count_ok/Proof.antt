@@ -1,5 +1,4 @@
 -- `message::faults::count_ok` meets its contract: the arms are the cases of `countOk`. Assumes nothing.
-use Rattle.word.proofs.Rules.{tests}
 use borrow.Author.Needs.{needs}
 use Rattle.message.proofs.faults.count_ok.Statement.{statement}
 use Rattle.message.proofs.faults.count_ok.Tie as tie

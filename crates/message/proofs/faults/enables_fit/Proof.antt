@@ -3,8 +3,8 @@ use mathlib.Core.Path.{_≡_, sym, _∙_}
 use Prim.Native.Nat.{_+_, _≤_}
 use native.Mathlib.Omega.{arith}
 use Rattle.word.specs.Words.{wordsOf}
-use Rattle.message.specs.declared.header.Kind.the-variants.{Write}
-use Rattle.message.specs.Header.{kindOf, countOf, byte1Of, addressWords}
+use Rattle.header.specs.declared.Kind.the-variants.{Write}
+use Rattle.header.specs.Header.{kindOf, countOf, byte1Of, addressWords}
 use Rattle.message.proofs.Laws.Faults.{enables-low}
 use borrow.Author.Needs.{needs}
 use Rattle.message.proofs.faults.enables_fit.Statement.{statement}

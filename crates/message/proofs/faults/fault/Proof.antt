@@ -1,7 +1,7 @@
 -- `message::faults::fault` meets its contract: each check is a line of `faultOf`, in its order. Assumes nothing.
 use borrow.Author.Tests.{eq-eqb, ne-eqb}
 use Rattle.word.proofs.Rules.{flag-on, flag-off, eqb-on, eqb-off, leb-on, leb-off}
-use Rattle.message.specs.Walk.{faultOf}
+use Rattle.message.specs.Faults.{faultOf}
 use borrow.Author.Needs.{needs}
 use Rattle.message.proofs.faults.fault.Statement.{statement}
 use Rattle.message.proofs.faults.fault.Tie as tie

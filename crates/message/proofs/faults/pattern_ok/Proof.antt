@@ -2,7 +2,7 @@
 use mathlib.Core.Path.{sym, _∙_}
 use mathlib.Core.Bool.{or-false}
 use Rattle.word.proofs.Rules.{flag-on, flag-off}
-use Rattle.message.specs.Walk.{gapsOk, patternOk}
+use Rattle.message.specs.Faults.{gapsOk, patternOk}
 use Rattle.message.proofs.Laws.Faults.{gapless-pattern}
 use borrow.Author.Needs.{needs}
 use Rattle.message.proofs.faults.pattern_ok.Statement.{statement}

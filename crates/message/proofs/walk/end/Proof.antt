@@ -1,6 +1,6 @@
 -- `message::walk::end` meets its contract: the limit is tested. Assumes nothing.
 use Rattle.word.proofs.Rules.{tests}
-use Rattle.message.specs.Request.{endOf}
+use Rattle.message.specs.Walk.{endOf}
 use Rattle.message.proofs.walk.end.Statement.{statement}
 use Rattle.message.proofs.walk.end.Tie as tie
 

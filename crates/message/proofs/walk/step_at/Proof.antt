@@ -5,9 +5,9 @@ use lib.ListN.{drop}
 use Rattle.word.specs.Words.{wordsOf}
 use Rattle.word.proofs.Rules.{tests}
 use Rattle.word.proofs.Crossing.{length-wordsOf}
-use Rattle.message.specs.Header.{headOf, addressWords}
-use Rattle.message.specs.Walk.{stepOn}
-use Rattle.message.specs.Request.{addressFrom, stepAt}
+use Rattle.header.specs.Header.{headOf, addressWords}
+use Rattle.message.specs.Walk.{stepOn, stepAt}
+use Rattle.message.specs.Address.{addressFrom}
 use Rattle.message.proofs.Laws.Faults.{step-read}
 use borrow.Author.Needs.{needs}
 use Rattle.message.proofs.walk.step_at.Statement.{statement}

@@ -2,7 +2,7 @@
 use mathlib.Core.Path.{_∙_}
 use native.Mathlib.Omega.{arith}
 use Rattle.word.proofs.Rules.{flag-on, flag-off}
-use Rattle.message.proofs.Laws.Back.{right}
+use Rattle.header.proofs.Laws.Lengths.{right}
 use Rattle.message.proofs.Laws.Going.{walk-long, walk-whole}
 use borrow.Author.Needs.{needs}
 use Rattle.message.proofs.walk.walk.Statement.{statement}

@@ -1,6 +1,5 @@
 -- `message::walk::walk_on` meets its contract. The loop's invariant: what is left of the walk comes to the whole. Assumes nothing.
-use Rattle.message.specs.declared.refusal.Refusal.{Refusal}
-use Rattle.message.specs.declared.header.Kind.{Kind}
+use Rattle.header.specs.declared.Kind.{Kind}
 use borrow.Author.Needs.{needs}
 use mathlib.Core.Path.{_≡_, sym, _∙_, ap}
 use Prim.Native.Nat.{ℕ, _-_, _*_}
@@ -9,11 +8,10 @@ use denote.Ref.{now}
 use lib.ListN.{length}
 use Rattle.word.specs.Words.{wordsOf}
 use Rattle.word.proofs.Crossing.{length-wordsOf}
-use Rattle.message.specs.declared.walk.Step.the-variants.{Read, Refused}
+use Rattle.message.specs.declared.walk.Step.the-variants.{Read}
 use Rattle.message.specs.declared.walk.Walked.the-variants.{Malformed}
-use Rattle.message.specs.Header.{kindOf, replyWords}
-use Rattle.message.specs.Walk.{refusalOf}
-use Rattle.message.specs.Request.{stepAt}
+use Rattle.header.specs.Header.{kindOf, replyWords}
+use Rattle.message.specs.Walk.{refusalOf, stepAt}
 use Rattle.message.proofs.Laws.Going.{reply-each, Going, got, going-starts, going-refused, going-last, going-small, going-on, going-less}
 use Rattle.message.proofs.walk.walk_on.Statement.{statement}
 use Rattle.message.proofs.walk.walk_on.Tie as tie

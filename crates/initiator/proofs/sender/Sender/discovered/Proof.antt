@@ -1,23 +1,24 @@
 -- `initiator::sender::Sender::discovered` meets its contract: check by check. Assumes nothing.
-use Rattle.message.specs.declared.answer.Status.the-variants.{Ok, Timeout, Error}
+use Rattle.answer.specs.declared.Status.the-variants.{Ok, Timeout, Error}
 use mathlib.Core.Path.{_≡_, sym, ap, _∙_}
-use mathlib.Core.Bool.{true, false}
+use mathlib.Core.Bool.{true}
 use native.Mathlib.Omega.{arith}
 use denote.Ref.{now}
 use lib.ListN.{length, getD}
 use Rattle.word.specs.Words.{wordsOf}
 use Rattle.word.proofs.Rules.{flag-on, flag-off}
 use Rattle.word.proofs.Crossing.{length-wordsOf}
-use Rattle.message.specs.declared.answer.Look.the-variants.{Item, Bad}
-use Rattle.message.specs.Request.{lengthOk}
-use Rattle.message.specs.Answer.{answerByte, lookAt}
-use Rattle.message.proofs.Laws.Back.{right}
-use Rattle.initiator.specs.Outcome.{badOf}
-use Rattle.initiator.specs.Sender.{discoveryByte, spoiled, startedAt}
+use Rattle.answer.specs.declared.Look.the-variants.{Item}
+use Rattle.header.specs.Limits.{lengthOk}
+use Rattle.answer.specs.Answer.{answerByte, lookAt, badOf}
+use Rattle.header.proofs.Laws.Lengths.{right}
+use Rattle.message.specs.Discovery.{discoveryByte}
+use Rattle.initiator.specs.Sender.{spoiled, startedAt}
 use Rattle.initiator.proofs.Laws.Starting.{start-long, start-byte, start-bad, start-found, start-as, start-two, start-word}
 use borrow.Author.Needs.{needs}
 use Rattle.initiator.proofs.sender.Sender.discovered.Statement.{statement}
 use Rattle.initiator.proofs.sender.Sender.discovered.Tie as tie
+use Rattle.message.proofs.Laws.Fixed.{discovery-byte}
 
 -- the checks that were passed, and the answer that was read
 module _ (c : tie.Else1) where
@@ -25,8 +26,7 @@ module _ (c : tie.Else1) where
   entry = c .before .before .before .before
 
   byte-is : c .before .before .byte0-from .result ≡ discoveryByte
-  unfolding discoveryByte
-  byte-is = c .before .before .byte0-from .ensures .0
+  byte-is = c .before .before .byte0-from .ensures .0 ∙ discovery-byte
 
   long : lengthOk (length (now (entry .args .answer))) ≡ true
   long = flag-on (c .before .length-ok .ensures) (c .if1 .left)

@@ -1,0 +1,18 @@
+-- The bench sheet's lines for building: computed. Assumes nothing.
+use mathlib.Core.Path.{refl}
+use Rattle.word.specs.Words.{bytesOf, put, putWords}
+use Rattle.header.specs.Header.{kindNo, byte0From, headerFrom}
+use Rattle.message.specs.Faults.{patternOk}
+use Rattle.message.specs.Address.{addressIn}
+use Rattle.message.specs.Request.{commandWords, All}
+use Rattle.building.specs.Record.{startOk, byte0By, freshOk, writesOk, someOk, reachable}
+use Rattle.building.specs.Asked.{commandBy, countFits, fieldsOk, narrowOk, sizeBy, replyBy, roomFits, commandFault}
+use Rattle.building.specs.Build.{opened, begun, addFault, closeFault, grown, shut, lastSet, added, addedTo, closed, closedTo}
+use Rattle.building.specs.BenchSheet.{benchOut, benchSheet, BenchHolds}
+
+pub benched : BenchHolds
+unfolding bytesOf put putWords kindNo byte0From headerFrom patternOk addressIn commandWords All startOk byte0By freshOk writesOk someOk reachable commandBy countFits fieldsOk narrowOk sizeBy replyBy roomFits commandFault opened begun addFault closeFault grown shut lastSet added addedTo closed closedTo benchOut benchSheet
+benched = (
+  record { refused = refl; words = refl },
+  (record { refused = refl; words = refl }, (record { refused = refl; words = refl }, (record { refused = refl; words = refl }, tt))),
+)

@@ -1,0 +1,38 @@
+-- The tag record: which are allowed, what they advertise, and the record after a message. Assumes nothing.
+use Prim.Native.Nat.{ℕ, _+_}
+use mathlib.Core.Bool.{Bool, true, false, cond}
+use lib.Dec.{ltb, leb}
+use Rattle.header.specs.Header.{tagOf}
+use Rattle.header.specs.Limits.{limit}
+use Rattle.tags.specs.declared.record.TagRecord.{TagRecord}
+
+-- "The record says: no tag (fresh), or a tag and the length of the stored answer"
+abbrev pub isFresh : TagRecord → Bool
+isFresh tags = tags .fresh
+
+-- "The fresh record"
+abbrev pub freshRecord : TagRecord
+freshRecord = record { fresh = true; tag = 0; words = 0 }
+
+-- "word 1 is the stored tag at entry plus 16, or 0 where none is stored"
+unfoldable pub markOf : TagRecord → ℕ
+markOf tags = cond (isFresh tags) 0 (tags .tag + 16)
+
+-- "Memory is a lent run of 1 to 16,384 32-bit words"
+abbrev pub mostMemory : ℕ
+mostMemory = 16384
+
+-- 1, record and stored answer: "stored answer .. has a forbidden length, or the record is not fresh and not (tag 0 to 15, length 1 to" the limit)
+unfoldable pub heldOk : ℕ → ℕ → Bool
+heldOk tag words = cond (leb 16 tag) false (cond (ltb words 1) false (leb words limit))
+
+unfoldable pub recordOk : TagRecord → Bool
+recordOk tags = cond (isFresh tags) true (heldOk (tags .tag) (tags .words))
+
+unfoldable pub keptOk : ℕ → TagRecord → Bool
+keptOk stored tags = cond (ltb stored limit) false (recordOk tags)
+
+-- "store tag and answer", where the answer of n words is kept; else "tag and stored answer stay"
+abbrev pub recordBy : Bool → TagRecord → ℕ → ℕ → TagRecord
+recordBy true tags byte0 n = record { fresh = false; tag = tagOf byte0; words = n }
+recordBy false tags byte0 n = tags

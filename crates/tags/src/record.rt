@@ -1,0 +1,95 @@
+// The tag record: no tag, or a tag and the length of the stored answer.
+ghost use mathlib.Core.Path.{_≡_};
+ghost use mathlib.Core.Bool.{true};
+ghost use Rattle.tags.specs.Record.{freshRecord, markOf, heldOk, recordOk, keptOk, recordBy};
+use header::limits;
+
+// What the controller keeps of the last message beside its answer. A fresh record's other fields are never looked at.
+#[repr(C)]
+pub struct TagRecord {
+    pub fresh: bool,
+    pub tag: u32,
+    pub words: usize,
+}
+
+impl TagRecord {
+    // The most words of a message, and so of a stored answer; the least words that a stored answer is lent in.
+    pub const WORDS: usize = limits::LIMIT;
+    // The least bytes of an output; advertisement word 0.
+    pub const BYTES: usize = limits::LIMIT_BYTES;
+    // The most words of memory.
+    pub const MEMORY: usize = 16384;
+
+    // The record of a controller that has seen no message.
+    pub fn fresh() -> TagRecord
+        ensures { λ r. ⌜ r ≡ freshRecord ⌝ }
+    {
+        TagRecord {
+            fresh: true,
+            tag: 0,
+            words: 0,
+        }
+    }
+}
+
+// Word 1 of the advertisement.
+pub fn mark(tags: TagRecord) -> u32
+    requires { ⌜ recordOk tags ≡ true ⌝ }
+    ensures { λ r. ⌜ r ≡ markOf tags ⌝ }
+{
+    if tags.fresh {
+        return 0;
+    }
+    tags.tag + 16
+}
+
+// Whether a record may hold this tag and this length.
+fn held_ok(tag: u32, words: usize) -> bool
+    ensures { λ r. ⌜ r ≡ heldOk tag words ⌝ }
+{
+    if tag >= 16 {
+        return false;
+    }
+    if words < 1 {
+        return false;
+    }
+    words <= TagRecord::WORDS
+}
+
+// Check 1 of the record.
+pub fn record_ok(tags: TagRecord) -> bool
+    ensures { λ r. ⌜ r ≡ recordOk tags ⌝ }
+{
+    if tags.fresh {
+        return true;
+    }
+    held_ok(tags.tag, tags.words)
+}
+
+// Check 1 of the stored answer and the record.
+pub fn kept_ok(stored: usize, tags: TagRecord) -> bool
+    ensures { λ r. ⌜ r ≡ keptOk stored tags ⌝ }
+{
+    if stored < TagRecord::WORDS {
+        return false;
+    }
+    record_ok(tags)
+}
+
+// The record after a message was carried out, whose answer has n words.
+pub fn record_after(tags: TagRecord, byte0: u32, n: usize, keep: bool) -> TagRecord
+    ensures { λ r. ⌜ r ≡ recordBy keep tags byte0 n ⌝ }
+{
+    if keep {
+        return TagRecord {
+            fresh: false,
+            tag: header::tag(byte0),
+            words: n,
+        };
+    }
+    TagRecord {
+        fresh: tags.fresh,
+        tag: tags.tag,
+        words: tags.words,
+    }
+}
