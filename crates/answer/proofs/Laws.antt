@@ -1,8 +1,8 @@
--- Laws of the crate `answer` that belong to no one function; the crates above cite them.
-pub mod Answering
-pub mod Answers
+-- The laws of the crate `answer`: its promises, and what the crates above cite.
+pub mod Accepts
 pub mod Fixed
-pub mod Judged
-pub mod Judging
+pub mod Giving
+pub mod Heads
 pub mod Looking
+pub mod Refuses
 pub mod Worked

@@ -11,12 +11,12 @@ use Rattle.header.specs.declared.refusal.Refusal.{Refusal}
 use Rattle.header.specs.Header.{tagOf, kindOf, wideOf, discoveryOf, byte0Of, byte1Of, countOf, reservedOf, lastOf, byte0From, headerFrom, replyWords, endsOk}
 use Rattle.header.specs.Refusal.{refusedAt, refusal, unless}
 use Rattle.header.specs.Limits.{lengthOk}
-use Rattle.message.specs.Request.{Command, Request, Reading, Wrong, Means, before, none}
+use Rattle.message.specs.Request.{Command, Request, Reading, Refused, Means, before, none}
 use Rattle.answer.specs.declared.Status.{Status}
 use Rattle.answer.specs.declared.Status.the-variants.{Ok, Timeout, Error}
 use Rattle.answer.specs.declared.Seen.{Seen}
 use Rattle.answer.specs.declared.Look.{Look}
-use Rattle.answer.specs.declared.Look.the-variants.{Item, Bad}
+use Rattle.answer.specs.declared.Look.the-variants.{Item, Refused as RefusedLook}
 
 -- "response: 0 OK, 1 Timeout, 2 Error"
 abbrev pub codeOf : Status → ℕ
@@ -50,7 +50,8 @@ stops Ok last = last
 stops Timeout last = true
 stops Error last = true
 
--- the first fault of an answer's header h with `left` words after it, to a command with this count; last: it is the last command
+-- the first fault of an answer's header h with `left` words after it, to a command with this count; last: it is the
+-- last command
 unfoldable pub answerFault : ℕ → ℕ → Bool → ℕ → ℕ → ℕ
 answerFault byte0 count last h left =
     unless (eqb (byte0Of h) (answerByte byte0)) 34
@@ -68,43 +69,52 @@ seenOf h = record { status = statusNo (byte1Of h); count = countOf h; last = las
 -- the same of the header at word `at`, or its refusal
 unfoldable pub lookOn : ℕ → ℕ → Bool → ℕ → ℕ → ℕ → Look
 lookOn byte0 count last at h left =
-    cond (eqb (answerFault byte0 count last h left) 0) (Item (seenOf h)) (Bad (refusedAt (answerFault byte0 count last h left) at))
+    cond (eqb (answerFault byte0 count last h left) 0) (Item (seenOf h))
+    (RefusedLook (refusedAt (answerFault byte0 count last h left) at))
 
 -- at word `at` of the words ws; "35 (no word)"
 unfoldable pub lookAt : ℕ → ℕ → Bool → List ℕ → ℕ → Look
-lookAt byte0 count last ws at = cond (ltb at (length ws)) (lookOn byte0 count last at (getD ws at 0) (length ws - at - 1)) (Bad (refusedAt 35 at))
+lookAt byte0 count last ws at = cond (ltb at (length ws))
+    (lookOn byte0 count last at (getD ws at 0) (length ws - at - 1)) (RefusedLook (refusedAt 35 at))
 
 -- the refusal of a look that refused
 abbrev pub badOf : Look → Refusal
 badOf (Item s) = refusal 0
-badOf (Bad r) = r
+badOf (RefusedLook r) = r
 
 -- what a look comes to: `rest` follows the header, and `go n` is what follows behind n words of it
 abbrev pub lookTurn : Look → List ℕ → (ℕ → Reading (List Answered)) → Reading (List Answered)
-lookTurn (Bad r) rest go = Wrong r
+lookTurn (RefusedLook r) rest go = Refused r
 lookTurn (Item s) rest go =
     cond (s .last) (Means (record { status = s .status; payload = take (s .count) rest } ∷ []))
     (before (record { status = s .status; payload = take (s .count) rest }) (go (s .count)))
 
 -- the answers to the commands cs in the words ws, the first of which is word `at` of the answer
 unfoldable pub answersFrom : ℕ → ℕ → List Command → List ℕ → Reading (List Answered)
-answersFrom byte0 at [] ws = Wrong (refusedAt 35 at)
-answersFrom byte0 at (c ∷ cs) [] = Wrong (refusedAt 35 at)
+answersFrom byte0 at [] ws = Refused (refusedAt 35 at)
+answersFrom byte0 at (c ∷ cs) [] = Refused (refusedAt 35 at)
 answersFrom byte0 at (c ∷ cs) (h ∷ rest) =
-    lookTurn (lookOn byte0 (c .count) (none cs) at h (length rest)) rest (λ n. answersFrom byte0 (at + 1 + n) cs (drop n rest))
+    lookTurn (lookOn byte0 (c .count) (none cs) at h (length rest)) rest
+    (λ n. answersFrom byte0 (at + 1 + n) cs (drop n rest))
+
+-- 32, then 33, of an answer to a request of this byte 0; number 0 for none
+unfoldable pub headFault : ℕ → List ℕ → Refusal
+headFault byte0 dg = unless (lengthOk (length dg)) (refusal 32)
+    (unless (eqb (getD dg 0 0) (answerByte byte0)) (refusal 33) (refusal 0))
 
 -- an answer datagram to a request: 32, 33, and at each header 35 (no word), 34, 35
 unfoldable pub judge : Request → List ℕ → Reading (List Answered)
 judge r dg =
     cond (lengthOk (length dg))
-    (cond (eqb (getD dg 0 0) (answerByte (r .byte0))) (answersFrom (r .byte0) 0 (r .commands) (wordsOf dg)) (Wrong (refusal 33)))
-    (Wrong (refusal 32))
+    (cond (eqb (getD dg 0 0) (answerByte (r .byte0))) (answersFrom (r .byte0) 0 (r .commands) (wordsOf dg))
+    (Refused (refusal 33)))
+    (Refused (refusal 32))
 
 -- one answer's words, status in byte 1
 unfoldable pub answeredWords : ℕ → Bool → Answered → List ℕ
 answeredWords byte last a = headerFrom byte (codeOf (a .status)) (length (a .payload)) last ∷ a .payload
 
--- "The answer has one header for each command up to the last or the first Error .. LAST on the final one"
+-- "The answer has one header for each command up to the last or the first Error .. LAST on the last one"
 unfoldable pub answerWords : ℕ → List Answered → List ℕ
 answerWords byte [] = []
 answerWords byte (a ∷ more) = answeredWords byte (none more) a ++ answerWords byte more
@@ -122,7 +132,8 @@ pub record FitsAnswered (byte0 : ℕ) (c : Command) (a : Answered) : Type 0 wher
 unfoldable pub FitsAnswers : ℕ → List Command → List Answered → Type 0
 FitsAnswers byte0 cs [] = ⊥
 FitsAnswers byte0 [] (a ∷ more) = ⊥
-FitsAnswers byte0 (c ∷ cs) (a ∷ more) = FitsAnswered byte0 c a × cond (stops (a .status) (none cs)) (more ≡ []) (FitsAnswers byte0 cs more)
+FitsAnswers byte0 (c ∷ cs) (a ∷ more) = FitsAnswered byte0 c a
+    × cond (stops (a .status) (none cs)) (more ≡ []) (FitsAnswers byte0 cs more)
 
 -- a list that fits a request
 abbrev pub FitsAnswer : Request → List Answered → Type 0

@@ -1,5 +1,5 @@
--- The refusals 32 to 35 in their own words, apart from `judge`: what `proofs/Laws/Judged.antt` and `proofs/Laws/Judging.antt` show of it.
--- Assumes nothing.
+-- The refusals 32 to 35 in their own words, apart from `judge`: what `proofs/Laws/Accepts.antt` and
+-- `proofs/Laws/Refuses.antt` show of it. Assumes nothing.
 use Prim.Native.Nat.{ℕ, _≤_}
 use mathlib.Core.Path.{_≡_}
 use mathlib.Core.Logic.{_↔_}
@@ -9,7 +9,7 @@ use lib.ListN.{length, getD}
 use Rattle.word.specs.Words.{wordsOf}
 use Rattle.header.specs.Refusal.{refusedAt}
 use Rattle.header.specs.Limits.{lengthOk}
-use Rattle.message.specs.Request.{Command, Request, Wrong, Means, none}
+use Rattle.message.specs.Request.{Command, Request, Refused, Means, none}
 use Rattle.answer.specs.declared.Status.the-variants.{Ok}
 use Rattle.answer.specs.Answer.{Answered, answerByte, answerFault, judge, answeredWords, encodeAnswer, FitsAnswered, FitsAnswer}
 
@@ -45,12 +45,16 @@ pub record AnswerFaultAfter (byte0 n at : ℕ) (cs : List Command) (ws : List �
 
 -- the same for the answers to a request: each of 32 to 35 with its index
 pub record RefusesExactly (r : Request) (dg : List ℕ) : Type 0 where
-  pub long : (at : ℕ) → (judge r dg ≡ Wrong (refusedAt 32 at)) ↔ ((lengthOk (length dg) ≡ false) × (at ≡ 0))
-  pub other : (at : ℕ) → (judge r dg ≡ Wrong (refusedAt 33 at)) ↔ ((lengthOk (length dg) ≡ true) × (getD dg 0 0 ≡ answerByte (r .byte0) → ⊥) × (at ≡ 0))
+  pub long : (at : ℕ) → (judge r dg ≡ Refused (refusedAt 32 at)) ↔ ((lengthOk (length dg) ≡ false) × (at ≡ 0))
+  pub other : (at : ℕ)
+      → (judge r dg ≡ Refused (refusedAt 33 at))
+      ↔ ((lengthOk (length dg) ≡ true) × (getD dg 0 0 ≡ answerByte (r .byte0) → ⊥) × (at ≡ 0))
   pub faults : (n at : ℕ) → 34 ≤ n → n ≤ 35
-      → (judge r dg ≡ Wrong (refusedAt n at))
-      ↔ ((lengthOk (length dg) ≡ true) × (getD dg 0 0 ≡ answerByte (r .byte0)) × AnswerFaultAfter (r .byte0) n at (r .commands) (wordsOf dg))
+      → (judge r dg ≡ Refused (refusedAt n at))
+      ↔ ((lengthOk (length dg) ≡ true) × (getD dg 0 0 ≡ answerByte (r .byte0))
+      × AnswerFaultAfter (r .byte0) n at (r .commands) (wordsOf dg))
 
 -- an answer is accepted exactly if it is the encoding of a list that fits the request
 unfoldable pub AcceptsExactly : Request → List ℕ → Type 0
-AcceptsExactly r dg = (items : List Answered) → (judge r dg ≡ Means items) ↔ (FitsAnswer r items × (dg ≡ encodeAnswer r items))
+AcceptsExactly r dg = (items : List Answered)
+    → (judge r dg ≡ Means items) ↔ (FitsAnswer r items × (dg ≡ encodeAnswer r items))

@@ -1,11 +1,12 @@
--- Worked and hostile answers, from bytes, with the refusal that each must get. `proofs/Laws/Worked.antt` computes them. Assumes nothing.
+-- Worked and hostile answers, from bytes, with the refusal that each must get. `proofs/Laws/Worked.antt` computes them.
+-- Assumes nothing.
 use Prim.Native.Nat.{ℕ}
 use mathlib.Core.Bool.{Bool}
 use mathlib.Core.List.{List, [], _∷_}
 use Rattle.word.specs.Words.{bytesOf}
 use Rattle.header.specs.declared.refusal.Refusal.{Refusal}
 use Rattle.header.specs.Refusal.{refusedAt, refusal}
-use Rattle.message.specs.Request.{Request, Reading, Wrong, Means, refusalIn}
+use Rattle.message.specs.Request.{Request, Reading, Refused, Means, refusalIn}
 use Rattle.message.specs.Walk.{read}
 use Rattle.message.specs.Examples.{sameRefusal}
 use Rattle.answer.specs.Answer.{judge}
@@ -73,7 +74,7 @@ answers =
     ∷ []
 
 abbrev pub judged : Reading Request → List ℕ → Refusal
-judged (Wrong r) dg = refusedAt 31 (r .at)
+judged (Refused r) dg = refusedAt 31 (r .at)
 judged (Means r) dg = refusalIn (judge r dg)
 
 abbrev pub rightAnswer : AnswerExample → Bool

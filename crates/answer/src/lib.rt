@@ -1,6 +1,7 @@
 // Answers: what stands at an answer's header, judged against the command that it answers, 34 and 35.
 //
-// The contracts cite specs/: one short definition for each sentence of document 01. The crate's root goes by specs/Answer.antt.
+// The contracts cite specs/: one short definition for each sentence of document 01. The crate's root goes by
+// specs/Answer.antt.
 ghost use mathlib.Core.Path.{_≡_};
 ghost use Prim.Native.Nat.{_<_, _≤_};
 ghost use mathlib.Core.Bool.{Bool·beq};
@@ -8,8 +9,9 @@ ghost use lib.Dec.{ltb, eqb};
 ghost use Rattle.word.specs.Words.{wordsOf};
 ghost use Rattle.header.specs.Limits.{limit};
 ghost use Rattle.header.specs.Header.{countOf, byte1Of, lastOf, endsOk};
-ghost use Rattle.answer.specs.Answer.{badOf, codeOf, statusNo, answerByte, wanted, stops, answerFault, lookOn, lookAt};
+ghost use Rattle.answer.specs.Answer.{badOf, codeOf, statusNo, answerByte, wanted, stops, answerFault, lookOn, lookAt, headFault};
 use header::Kind;
+use header::limits;
 use header::refusal::Refusal;
 
 // How a command ended.
@@ -29,7 +31,7 @@ pub struct Seen {
 // What stands at an answer's header: an answer that was read, or the refusal.
 pub enum Look {
     Item(Seen),
-    Bad(Refusal),
+    Refused(Refusal),
 }
 
 // The status that a number below 3 names.
@@ -45,7 +47,8 @@ fn status_no(n: u32) -> Status
 
 // The number of a status.
 pub fn code(status: Status) -> u32
-    ensures { λ r. ⌜ (r ≡ codeOf status) × (r < 3) ⌝ }
+    ensures { λ r. ⌜ r ≡ codeOf status ⌝ }
+    ensures below { λ r. ⌜ r < 3 ⌝ }
 {
     match status {
         Status::Ok => 0,
@@ -56,7 +59,8 @@ pub fn code(status: Status) -> u32
 
 // Byte 0 of the answer to a request of this byte 0.
 pub fn answer_byte(byte0: u32) -> u32
-    ensures { λ r. ⌜ (r ≡ answerByte byte0) × (r < 256) ⌝ }
+    ensures { λ r. ⌜ r ≡ answerByte byte0 ⌝ }
+    ensures below { λ r. ⌜ r < 256 ⌝ }
 {
     header::byte0_from(
         header::tag(byte0),
@@ -160,7 +164,7 @@ fn look_on(byte0: u32, count: usize, last: bool, place: u32, h: u32, left: usize
 {
     let number = answer_fault(byte0, count, last, h, left);
     if number != 0 {
-        return Look::Bad(Refusal { number, at: place });
+        return Look::Refused(Refusal { number, at: place });
     }
     Look::Item(Seen {
         status: status_no(header::byte1(h)),
@@ -177,7 +181,7 @@ pub fn look_at(byte0: u32, count: usize, last: bool, answer: &[u8], at: usize) -
     let place = at as u32;
     let n = answer.len() / 4;
     if n <= at {
-        return Look::Bad(Refusal {
+        return Look::Refused(Refusal {
             number: Refusal::ANSWER_END,
             at: place,
         });
@@ -192,12 +196,26 @@ pub fn look_at(byte0: u32, count: usize, last: bool, answer: &[u8], at: usize) -
     )
 }
 
+// 32, then 33: the refusal of an answer to a request of this byte 0 by its length and its first byte; number 0 for
+// none.
+pub fn head_refusal(byte0: u32, answer: &[u8]) -> Refusal
+    ensures { λ r. ⌜ r ≡ headFault byte0 (now (answer .entry)) ⌝ }
+{
+    if !limits::length_ok(answer.len()) {
+        return Refusal::of(Refusal::ANSWER_LENGTH);
+    }
+    if word::from_byte(answer[0]) != answer_byte(byte0) {
+        return Refusal::of(Refusal::ANSWER_BYTE_0);
+    }
+    Refusal::of(Refusal::NONE)
+}
+
 // The refusal that a look at an answer's header gave.
 pub fn refusal_of(look: Look) -> Refusal
     ensures { λ r. ⌜ r ≡ badOf look ⌝ }
 {
     match look {
-        Look::Item(_) => Refusal { number: 0, at: 0 },
-        Look::Bad(refusal) => refusal,
+        Look::Item(_) => Refusal::of(Refusal::NONE),
+        Look::Refused(refusal) => refusal,
     }
 }

@@ -1,6 +1,6 @@
-// A bad night between the two ends, on their real functions: each message is sent and lost, sent again, comes twice, and late once
-// more; a discovery comes in between, and its answer and old answers reach the sender. Eighteen messages, so that tags go past 15.
-// Prints what each call gave, and the memory at the end.
+// A bad night between the two ends, on their real functions: each message is sent and lost, sent again, comes twice,
+// and late once more; a discovery comes in between, and its answer and old answers reach the sender. Eighteen messages,
+// so that tags go past 15. Prints what each call gave, and the memory at the end.
 use building::asked::Asked;
 use building::build;
 use completer::serving;
@@ -27,7 +27,8 @@ struct Ends {
     before: usize,
 }
 
-// Builds message i and gives its length: two of three write a word that says their number, the third reads the word before.
+// Builds message i and gives its length: two of three write a word that says their number, the third reads the word
+// before.
 fn compose(out: &mut [u8], i: u32) -> usize {
     let reads = i % 3 == 2;
     let kind = if reads { READ } else { WRITE };
@@ -149,7 +150,8 @@ fn again(s: Sender, message: &[u8], old: &[u8]) -> Sender {
     back(b"old answer", s, message, old)
 }
 
-// Message i waits: its first send is lost, a discovery comes, and the answer to the message before reaches the sender once more.
+// Message i waits: its first send is lost, a discovery comes, and the answer to the message before reaches the sender
+// once more.
 fn evening(
     memory: &mut [u32],
     stored: &mut [u32],

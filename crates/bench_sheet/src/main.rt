@@ -1,5 +1,5 @@
-// Runs every line of the bench sheet on the real call, marked or not, and names what each gave: the refusal or the words sent, the
-// words of memory that a line speaks of, and the record.
+// Runs every line of the bench sheet on the real call, marked or not, and names what each gave: the refusal or the
+// words sent, the words of memory that a line speaks of, and the record.
 use completer::serving;
 use header::limits;
 use tags::record::TagRecord;

@@ -1,4 +1,5 @@
-// What is refused: at a later header, by the record, by a datagram's length or its first header, and by the length of its answer.
+// What is refused: at a later header, by the record, by a datagram's length or its first header, and by the length of
+// its answer.
 use crate::FEED;
 use crate::bench;
 use crate::held;

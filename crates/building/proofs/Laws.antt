@@ -1,8 +1,5 @@
--- Laws of the crate `building` that belong to no one function; the crates above cite them.
+-- The laws of the crate `building`: its promises, and what the crates above cite.
 pub mod Benched
-pub mod Calls
 pub mod Fixed
-pub mod Passed
 pub mod Reach
 pub mod Sequence
-pub mod Shapes

@@ -35,11 +35,11 @@ addressSent Read address = address
 addressSent Response address = 0
 
 -- "a read carries its address only"
-abbrev pub carriedBy : Kind → List ℕ → List ℕ
-carriedBy Nop payload = payload
-carriedBy Write payload = payload
-carriedBy Read payload = []
-carriedBy Response payload = payload
+abbrev pub dataSent : Kind → List ℕ → List ℕ
+dataSent Nop payload = payload
+dataSent Write payload = payload
+dataSent Read payload = []
+dataSent Response payload = payload
 
 -- the command that is asked for in a message of this byte 0
 unfoldable pub commandBy : ℕ → Asked → List ℕ → Command
@@ -48,7 +48,7 @@ commandBy byte0 asked payload =
       byte1 = byte1By (kindOf byte0) (asked .first) (asked .last);
       count = countBy (kindOf byte0) (asked .count) (length payload);
       address = addressSent (kindOf byte0) (asked .address);
-      payload = carriedBy (kindOf byte0) payload;
+      payload = dataSent (kindOf byte0) payload;
     }
 
 -- not "23 count": 12 bits hold no count over 4,095
@@ -57,7 +57,8 @@ countFits kind count = ltb count 4096 && countOk kind count
 
 -- not "24 enables": two fields of four bits each; "NOPs skip 24 and 25, reads skip 24"
 unfoldable pub fieldsOk : ℕ → Asked → Bool
-fieldsOk count asked = ltb (asked .first) 16 && ltb (asked .last) 16 && patternOk count (asked .address) (asked .first) (asked .last)
+fieldsOk count asked = ltb (asked .first) 16 && ltb (asked .last) 16
+    && patternOk count (asked .address) (asked .first) (asked .last)
 
 abbrev pub enablesFit : Kind → ℕ → Asked → Bool
 enablesFit Nop count asked = true

@@ -1,4 +1,5 @@
--- The bench sheet's lines for building, as one statement over one list. `proofs/Laws/Benched.antt` computes it. Assumes nothing.
+-- The bench sheet's lines for building, as one statement over one list. `proofs/Laws/Benched.antt` computes it. Assumes
+-- nothing.
 use Prim.Native.Nat.{ℕ}
 use mathlib.Core.Path.{_≡_}
 use mathlib.Core.Bool.{false}
@@ -13,10 +14,10 @@ use Rattle.building.specs.declared.record.Building.{Building}
 use Rattle.building.specs.declared.asked.Asked.{Asked}
 use Rattle.building.specs.declared.build.Built.{Built}
 use Rattle.building.specs.Build.{begun, added, addedTo, closed, closedTo}
-use Rattle.building.specs.Sequence.{sent}
+use Rattle.building.specs.Sequence.{builtBytes}
 
--- a line of the sheet: a write of tag 0 in 32-bit mode is begun, this command added, the message closed; the number that adding it
--- gets, and the message's words
+-- a line of the sheet: a write of tag 0 in 32-bit mode is begun, this command added, the message closed; the number
+-- that adding it gets, and the message's words
 pub record Line : Type 0 where
   pub asked : Asked
   pub payload : List ℕ
@@ -39,7 +40,8 @@ benchAddedTo l = addedTo benchOut benchBegun (l .asked) (l .payload)
 -- the line holds
 pub record Right (l : Line) : Type 0 where
   pub refused : benchAdded l .refusal ≡ refusal (l .number)
-  pub words : sent (closed (benchAddedTo l) (benchAdded l .building) .building) (closedTo (benchAddedTo l) (benchAdded l .building)) ≡ bytesOf (l .words)
+  pub words : builtBytes (closed (benchAddedTo l) (benchAdded l .building) .building)
+      (closedTo (benchAddedTo l) (benchAdded l .building)) ≡ bytesOf (l .words)
 
 -- asked for: the write that the controller's lines have, enables 5 and A
 abbrev pub gappedAt : ℕ → ℕ → List ℕ → Line

@@ -26,12 +26,22 @@ longOk room = leb limitBytes room
 -- "begin (kind, tag, address mode, discovery)": nothing added yet
 unfoldable pub opened : ℕ → ℕ → Bool → Bool → Building
 opened kind tag wide discovery =
-    record { kind = kind; tag = tag; wide = wide; discovery = discovery; words = 0; last = 0; answer = 0; closed = false }
+    record {
+      kind = kind;
+      tag = tag;
+      wide = wide;
+      discovery = discovery;
+      words = 0;
+      last = 0;
+      answer = 0;
+      closed = false;
+    }
 
 -- 21 of begin: "short output, kind over 2, tag over 15"; a refused begin hands back a constant record
 unfoldable pub begun : ℕ → ℕ → ℕ → Bool → Bool → Built
 begun room kind tag wide discovery =
-    cond (longOk room && startOk kind tag) (gives 0 (opened kind tag wide discovery)) (gives 21 (opened 0 0 false false))
+    cond (longOk room && startOk kind tag) (gives 0 (opened kind tag wide discovery))
+    (gives 21 (opened 0 0 false false))
 
 -- 21 of add and close: "short output .. or a building record that no sequence of calls gives"
 abbrev pub usable : ℕ → Building → Bool
@@ -41,7 +51,8 @@ usable room b = longOk room && reachable b
 unfoldable pub addFault : ℕ → Building → Asked → ℕ → ℕ
 addFault room b asked lent =
     unless (usable room b) 21
-    (unless (not (b .closed)) 22 (commandFault (byte0By b) (b .words) (b .answer) asked (countBy (kindOf (byte0By b)) (asked .count) lent)))
+    (unless (not (b .closed)) 22
+    (commandFault (byte0By b) (b .words) (b .answer) asked (countBy (kindOf (byte0By b)) (asked .count) lent)))
 
 -- 21, then 22 "closing twice or closing with nothing added"
 unfoldable pub closeFault : ℕ → Building → ℕ

@@ -11,7 +11,7 @@ use Rattle.building.specs.declared.record.Building.{Building}
 use Rattle.building.specs.declared.asked.Asked.{Asked}
 use Rattle.building.specs.Build.{begun, added, addedTo, closed, closedTo}
 use Rattle.building.specs.Reach.{Lent}
-use Rattle.building.specs.Sequence.{sent}
+use Rattle.building.specs.Sequence.{builtBytes}
 
 -- a NOP of tag 0 with the discovery bit, begun, and its data added; what a NOP has no use for is free
 abbrev pub discoveryBegun : List ℕ → Building
@@ -28,4 +28,5 @@ abbrev pub DiscoveryIsBuilt : Type 0
 DiscoveryIsBuilt =
     (out : List ℕ) (asked : Asked) → limitBytes ≤ length out → Lent asked discoveryData
     → (closed (discoveryOut out asked) (discoveryAdded out asked) .refusal ≡ refusal 0)
-    × (sent (closed (discoveryOut out asked) (discoveryAdded out asked) .building) (closedTo (discoveryOut out asked) (discoveryAdded out asked)) ≡ discoveryBytes)
+    × (builtBytes (closed (discoveryOut out asked) (discoveryAdded out asked) .building)
+    (closedTo (discoveryOut out asked) (discoveryAdded out asked)) ≡ discoveryBytes)

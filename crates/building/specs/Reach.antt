@@ -19,9 +19,11 @@ pub record Lent (asked : Asked) (payload : List ℕ) : Type 0 where
 
 -- a record that a sequence of calls gives: an accepted begin, then adding and closing, with any outputs
 pub data Reached : Building → Type 0 where
-  begins : (out : List ℕ) (kind tag : ℕ) (wide discovery : Bool) → begun (length out) kind tag wide discovery .refusal ≡ refusal 0
+  begins : (out : List ℕ) (kind tag : ℕ) (wide discovery : Bool)
+      → begun (length out) kind tag wide discovery .refusal ≡ refusal 0
       → Reached (begun (length out) kind tag wide discovery .building)
-  adds : {b : Building} → Reached b → (out : List ℕ) (asked : Asked) (payload : List ℕ) → Lent asked payload → Reached (added out b asked payload .building)
+  adds : {b : Building} → Reached b → (out : List ℕ) (asked : Asked) (payload : List ℕ) → Lent asked payload
+      → Reached (added out b asked payload .building)
   closes : {b : Building} → Reached b → (out : List ℕ) → Reached (closed out b .building)
 
 -- the formula that 21 tests is that

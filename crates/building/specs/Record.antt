@@ -1,17 +1,17 @@
--- The building record, and the formula of the records that some sequence of calls gives (specs/Reach.antt says it in those words).
--- Assumes nothing.
+-- The building record, and the formula of the records that some sequence of calls gives (specs/Reach.antt says it in
+-- those words). Assumes nothing.
 use Prim.Native.Nat.{ℕ, _+_, _-_, _*_, _/_, _%_}
 use mathlib.Core.Bool.{Bool, false, not, cond, _&&_}
 use lib.Dec.{ltb, leb, eqb}
 use Rattle.header.specs.declared.Kind.{Kind}
 use Rattle.header.specs.declared.Kind.the-variants.{Nop, Write, Read, Response}
-use Rattle.header.specs.Limits.{limit}
+use Rattle.header.specs.Limits.{limit, tagCount}
 use Rattle.header.specs.Header.{kindNo, kindOf, byte0From, addressWords}
 use Rattle.building.specs.declared.record.Building.{Building}
 
 -- not "kind over 2, tag over 15"
 unfoldable pub startOk : ℕ → ℕ → Bool
-startOk kind tag = ltb kind 3 && ltb tag 16
+startOk kind tag = ltb kind 3 && ltb tag tagCount
 
 -- byte 0 of the headers, from "begin's four"
 unfoldable pub byte0By : Building → ℕ
@@ -28,11 +28,13 @@ nopsOk words last answer = eqb answer words && leb (words - last) 3
 
 -- writes have 2 + a words or more, and are answered by one each
 unfoldable pub writesOk : ℕ → ℕ → ℕ → ℕ → Bool
-writesOk a words last answer = leb (2 + a) (words - last) && cond (eqb answer 1) (eqb last 0) (leb ((answer - 1) * (2 + a)) last)
+writesOk a words last answer = leb (2 + a) (words - last)
+    && cond (eqb answer 1) (eqb last 0) (leb ((answer - 1) * (2 + a)) last)
 
 -- reads have 1 + a words, and are answered by 2 or more each
 unfoldable pub readsOk : ℕ → ℕ → ℕ → ℕ → Bool
-readsOk a words last answer = eqb (words - last) (1 + a) && eqb (words % (1 + a)) 0 && leb (2 * (words / (1 + a))) answer
+readsOk a words last answer = eqb (words - last) (1 + a) && eqb (words % (1 + a)) 0
+    && leb (2 * (words / (1 + a))) answer
 
 abbrev pub shapeOk : Kind → ℕ → ℕ → ℕ → ℕ → Bool
 shapeOk Nop a words last answer = nopsOk words last answer

@@ -10,8 +10,8 @@ use header::limits;
 use header::refusal::Refusal;
 use message::faults;
 
-// A command to add: its address, the enables of a write's first and last word, the count of a read. Enables are numbers that
-// can be wrong; what a kind has no use for is not looked at.
+// A command to add: its address, the enables of a write's first and last word, the count of a read. Enables are numbers
+// that can be wrong; what a kind has no use for is not looked at.
 #[repr(C)]
 pub struct Asked {
     pub address: u64,
@@ -35,7 +35,8 @@ pub(crate) fn count_by(kind: Kind, asked: usize, lent: usize) -> usize
 // Byte 1: a write's enables, else 0.
 fn byte1_by(kind: Kind, count: usize, asked: Asked) -> u32
     requires { ⌜ enablesFit kind count asked ≡ true ⌝ }
-    ensures { λ r. ⌜ (r ≡ byte1By kind (asked .first) (asked .last)) × (r < 256) ⌝ }
+    ensures { λ r. ⌜ r ≡ byte1By kind (asked .first) (asked .last) ⌝ }
+    ensures below { λ r. ⌜ r < 256 ⌝ }
 {
     match kind {
         Kind::Nop => 0,
@@ -47,7 +48,8 @@ fn byte1_by(kind: Kind, count: usize, asked: Asked) -> u32
 
 // The address that is sent: a NOP has none.
 pub(crate) fn address_sent(kind: Kind, address: u64) -> u64
-    ensures { λ r. ⌜ (r ≡ addressSent kind address) × (r < 18446744073709551616) ⌝ }
+    ensures { λ r. ⌜ r ≡ addressSent kind address ⌝ }
+    ensures below { λ r. ⌜ r < 18446744073709551616 ⌝ }
 {
     match kind {
         Kind::Nop => 0,
@@ -117,7 +119,8 @@ fn address_fits(kind: Kind, wide: bool, address: u64) -> bool
 // The words of a command in a message of this byte 0.
 pub(crate) fn size_by(byte0: u32, count: usize) -> usize
     requires { ⌜ count < 4096 ⌝ }
-    ensures { λ r. ⌜ (r ≡ sizeBy byte0 count) × (r < 4099) ⌝ }
+    ensures { λ r. ⌜ r ≡ sizeBy byte0 count ⌝ }
+    ensures below { λ r. ⌜ r < 4099 ⌝ }
 {
     1 + (header::address_words(byte0) + header::data_words(header::kind_of(byte0), count))
 }
@@ -125,14 +128,17 @@ pub(crate) fn size_by(byte0: u32, count: usize) -> usize
 // The words of its OK answer.
 pub(crate) fn reply_by(byte0: u32, count: usize) -> usize
     requires { ⌜ count < 4096 ⌝ }
-    ensures { λ r. ⌜ (r ≡ replyBy byte0 count) × (r < 4099) ⌝ }
+    ensures { λ r. ⌜ r ≡ replyBy byte0 count ⌝ }
+    ensures below { λ r. ⌜ r < 4099 ⌝ }
 {
     1 + header::reply_words(header::kind_of(byte0), count)
 }
 
 // Whether request and all-OK answer stay within the limit with a command more.
 fn room_fits(byte0: u32, words: usize, answer: usize, count: usize) -> bool
-    requires { ⌜ (words ≤ limit) × (answer ≤ limit) × (count < 4096) ⌝ }
+    requires { ⌜ (words ≤ limit)
+        × (answer ≤ limit)
+        × (count < 4096) ⌝ }
     ensures { λ r. ⌜ r ≡ roomFits byte0 words answer count ⌝ }
 {
     if limits::LIMIT < words + size_by(byte0, count) {
@@ -149,7 +155,8 @@ pub(crate) fn command_fault(
     asked: Asked,
     count: usize,
 ) -> u32
-    requires { ⌜ (words ≤ limit) × (answer ≤ limit) ⌝ }
+    requires { ⌜ words ≤ limit ⌝ }
+    requires { ⌜ answer ≤ limit ⌝ }
     ensures { λ r. ⌜ r ≡ commandFault byte0 words answer asked count ⌝ }
 {
     let kind = header::kind_of(byte0);
@@ -171,7 +178,9 @@ pub(crate) fn command_fault(
 
 // The header of a command that others may follow.
 pub(crate) fn header_by(byte0: u32, asked: Asked, count: usize) -> u32
-    requires { ⌜ (byte0 < 256) × (count < 4096) × (enablesFit (kindOf byte0) count asked ≡ true) ⌝ }
+    requires { ⌜ (byte0 < 256)
+        × (count < 4096)
+        × (enablesFit (kindOf byte0) count asked ≡ true) ⌝ }
     ensures { λ r. ⌜ r ≡ headerFrom byte0 (byte1By (kindOf byte0) (asked .first) (asked .last)) count false ⌝ }
 {
     let byte1 = byte1_by(header::kind_of(byte0), count, asked);

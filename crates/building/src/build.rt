@@ -1,7 +1,7 @@
 // Building a message in a lent output: begin, add, close.
 //
-// Every call takes any record and any buffers. A refusal, 21 to 26, changes nothing; else only the added command's bytes
-// change, or the LAST bit of the last header.
+// Every call takes any record and any buffers. A refusal, 21 to 26, changes nothing; else only the added command's
+// bytes change, or the LAST bit of the last header.
 ghost use mathlib.Core.Path.{_≡_};
 ghost use Prim.Native.Nat.{_+_, _*_, _<_, _≤_};
 ghost use mathlib.Core.Bool.{true, false};
@@ -35,7 +35,7 @@ fn given(number: u32, building: Building) -> Built
     ensures { λ r. ⌜ r ≡ gives number building ⌝ }
 {
     Built {
-        refusal: Refusal { number, at: 0 },
+        refusal: Refusal::of(number),
         building,
     }
 }
@@ -111,8 +111,12 @@ fn close_fault(room: usize, b: Building) -> u32
 
 // A command: its header, then its address, then its data, into the output from word `at` on. Every other byte stays.
 fn put_command(out: &mut [u8], at: usize, h: u32, n: usize, address: u64, payload: &[u32])
-    requires { ⌜ (n ≤ 2) × (address < addressTop n) × (length (now payload) ≤ longest) × (4 * (at + (1 + (n + length (now payload)))) ≤ length (now out)) ⌝ }
-    ensures { λ _. ⌜ now (out .exit) ≡ putWords (now (out .entry)) at (h ∷ (addressIn n address ++ now (payload .entry))) ⌝ }
+    requires { ⌜ (n ≤ 2)
+        × (address < addressTop n)
+        × (length (now payload) ≤ longest)
+        × (4 * (at + (1 + (n + length (now payload)))) ≤ length (now out)) ⌝ }
+    ensures { λ _. ⌜ now (out .exit) ≡ putWords (now (out .entry)) at
+        (h ∷ (addressIn n address ++ now (payload .entry))) ⌝ }
 {
     word::put_word(out, at, h);
     address::put_address(out, at + 1, n, address);
@@ -121,7 +125,10 @@ fn put_command(out: &mut [u8], at: usize, h: u32, n: usize, address: u64, payloa
 
 // The record with one more command, of this count.
 fn grow(b: Building, byte0: u32, count: usize) -> Building
-    requires { ⌜ (byte0 ≡ byte0By b) × (count < 4096) × (b .words ≤ limit) × (b .answer ≤ limit) ⌝ }
+    requires { ⌜ (byte0 ≡ byte0By b)
+        × (count < 4096)
+        × (b .words ≤ limit)
+        × (b .answer ≤ limit) ⌝ }
     ensures { λ r. ⌜ r ≡ grown b count ⌝ }
 {
     Building {
@@ -139,7 +146,10 @@ fn grow(b: Building, byte0: u32, count: usize) -> Building
 // Puts a command that nothing is wrong with behind the words so far.
 fn place(out: &mut [u8], b: Building, asked: Asked, payload: &[u32]) -> Building
     requires { ⌜ addFault (length (now out)) b asked (length (now payload)) ≡ 0 ⌝ }
-    ensures { λ r. ⌜ (r ≡ grown b (countBy (kindOf (byte0By b)) (asked .count) (length (now (payload .entry))))) × (now (out .exit) ≡ putWords (now (out .entry)) (b .words) (commandWords (byte0By b) false (commandBy (byte0By b) asked (now (payload .entry))))) ⌝ }
+    ensures { λ r. ⌜ (r ≡ grown b (countBy (kindOf (byte0By b)) (asked .count) (length (now (payload .entry))))) ×
+        (now (out .exit)
+        ≡ putWords (now (out .entry)) (b .words)
+        (commandWords (byte0By b) false (commandBy (byte0By b) asked (now (payload .entry))))) ⌝ }
 {
     let byte0 = record::byte0_of(b);
     let kind = header::kind_of(byte0);
@@ -160,7 +170,8 @@ fn place(out: &mut [u8], b: Building, asked: Asked, payload: &[u32]) -> Building
 
 // Adds a command, with the data of a write or NOP.
 pub fn add(out: &mut [u8], b: Building, asked: Asked, payload: &[u32]) -> Built
-    ensures { λ r. ⌜ (r ≡ added (now (out .entry)) b asked (now (payload .entry))) × (now (out .exit) ≡ addedTo (now (out .entry)) b asked (now (payload .entry))) ⌝ }
+    ensures { λ r. ⌜ (r ≡ added (now (out .entry)) b asked (now (payload .entry))) ×
+        (now (out .exit) ≡ addedTo (now (out .entry)) b asked (now (payload .entry))) ⌝ }
 {
     let number = add_fault(out.len(), b, asked, payload.len());
     if number != 0 {

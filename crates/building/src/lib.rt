@@ -1,4 +1,5 @@
-// Building a message: which commands may be added, the record of a message that is being built, and the calls begin, add and close.
+// Building a message: which commands may be added, the record of a message that is being built, and the calls begin,
+// add and close.
 //
 // The contracts cite specs/: one short definition for each sentence of document 01, in the file named after the module.
 pub mod asked;

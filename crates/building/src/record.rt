@@ -6,8 +6,8 @@ ghost use Rattle.building.specs.Record.{startOk, byte0By, freshOk, nopsO
 use header::Kind;
 use header::limits;
 
-// A message that is being built: begin's four, the words so far, the place of the last header (0 if none), the words of the
-// all-OK answer so far, and whether it is closed. Kind and tag are numbers that can be wrong.
+// A message that is being built: begin's four, the words so far, the place of the last header (0 if none), the words of
+// the all-OK answer so far, and whether it is closed. Kind and tag are numbers that can be wrong.
 #[repr(C)]
 pub struct Building {
     pub kind: u32,
@@ -25,7 +25,7 @@ pub(crate) fn start_ok(kind: u32, tag: u32) -> bool
     ensures { λ r. ⌜ r ≡ startOk kind tag ⌝ }
 {
     match kind {
-        0..=2 => tag < 16,
+        0..=2 => tag < limits::TAGS,
         _ => false,
     }
 }
@@ -33,7 +33,8 @@ pub(crate) fn start_ok(kind: u32, tag: u32) -> bool
 // Byte 0 of every header of the message.
 pub(crate) fn byte0_of(b: Building) -> u32
     requires { ⌜ b .tag < 16 ⌝ }
-    ensures { λ r. ⌜ (r ≡ byte0By b) × (r < 256) ⌝ }
+    ensures { λ r. ⌜ r ≡ byte0By b ⌝ }
+    ensures below { λ r. ⌜ r < 256 ⌝ }
 {
     header::byte0_from(b.tag, header::kind_no(b.kind), b.wide, b.discovery)
 }
@@ -64,7 +65,10 @@ fn nops_ok(words: usize, last: usize, answer: usize) -> bool
 
 // The same of writes with `a` address words.
 fn writes_ok(a: usize, words: usize, last: usize, answer: usize) -> bool
-    requires { ⌜ (a < 3) × (last < words) × (1 ≤ answer) × (answer ≤ limit) ⌝ }
+    requires { ⌜ (a < 3)
+        × (last < words)
+        × (1 ≤ answer)
+        × (answer ≤ limit) ⌝ }
     ensures { λ r. ⌜ r ≡ writesOk a words last answer ⌝ }
 {
     if words - last < 2 + a {
@@ -78,7 +82,9 @@ fn writes_ok(a: usize, words: usize, last: usize, answer: usize) -> bool
 
 // The same of reads with `a` address words.
 fn reads_ok(a: usize, words: usize, last: usize, answer: usize) -> bool
-    requires { ⌜ (a < 3) × (last < words) × (words ≤ limit) ⌝ }
+    requires { ⌜ (a < 3)
+        × (last < words)
+        × (words ≤ limit) ⌝ }
     ensures { λ r. ⌜ r ≡ readsOk a words last answer ⌝ }
 {
     if words - last != 1 + a {
@@ -91,7 +97,11 @@ fn reads_ok(a: usize, words: usize, last: usize, answer: usize) -> bool
 }
 
 fn shape_ok(kind: Kind, a: usize, words: usize, last: usize, answer: usize) -> bool
-    requires { ⌜ (a < 3) × (last < words) × (words ≤ limit) × (1 ≤ answer) × (answer ≤ limit) ⌝ }
+    requires { ⌜ (a < 3)
+        × (last < words)
+        × (words ≤ limit)
+        × (1 ≤ answer)
+        × (answer ≤ limit) ⌝ }
     ensures { λ r. ⌜ r ≡ shapeOk kind a words last answer ⌝ }
 {
     match kind {

@@ -1,5 +1,3 @@
--- Laws of the crate `carrying` that belong to no one function; the crates above cite them.
-pub mod OneCommand
-pub mod Promised
+-- The laws of the crate `carrying`: its promises, and what the crates above cite.
+pub mod Promises
 pub mod Putting
-pub mod Underway

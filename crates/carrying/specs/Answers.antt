@@ -12,7 +12,8 @@ use Rattle.answer.specs.declared.Status.the-variants.{Ok, Error}
 use Rattle.answer.specs.Answer.{Answered, answerByte, answerWords}
 use Rattle.memory.specs.Moves.{fails, movesOf, afterMoves}
 
--- "Advertisement word 0 is" the limit in bytes; "word 1 is the stored tag at entry plus 16, or 0 where none is stored": `mark` is word 1
+-- "Advertisement word 0 is" the limit in bytes; "word 1 is the stored tag at entry plus 16, or 0 where none is stored":
+-- `mark` is word 1
 abbrev pub advertisement : ℕ → List ℕ
 advertisement mark = limitBytes ∷ mark ∷ []
 
@@ -37,7 +38,8 @@ answerOf kind mark memory c = cond (fails kind (length memory) c) failed (done k
 unfoldable pub answers : Kind → ℕ → List ℕ → List Command → List Answered
 answers kind mark memory [] = []
 answers kind mark memory (c ∷ cs) =
-    answerOf kind mark memory c ∷ cond (fails kind (length memory) c) [] (answers kind mark (afterMoves memory (movesOf kind c)) cs)
+    answerOf kind mark memory c
+    ∷ cond (fails kind (length memory) c) [] (answers kind mark (afterMoves memory (movesOf kind c)) cs)
 
 -- the answer to a request
 unfoldable pub answerTo : Request → ℕ → List ℕ → List Answered

@@ -1,4 +1,5 @@
--- What the code of carrying out makes of what it is lent: one command, and a whole message. Assumes nothing.
+-- What the code of carrying out goes by: one command, and at the end a whole message. Only `Carries` is cited above
+-- this crate; nobody needs to read the rest. Assumes nothing.
 use Prim.Native.Nat.{ℕ, _+_, _<_, _≤_}
 use mathlib.Core.Path.{_≡_}
 use mathlib.Core.Bool.{Bool, true, false, cond}
@@ -13,7 +14,7 @@ use Rattle.answer.specs.declared.Status.the-variants.{Error}
 use Rattle.answer.specs.Answer.{codeOf, answeredWords}
 use Rattle.memory.specs.Moves.{fails, movesOf, afterMoves, memoryAfter}
 use Rattle.carrying.specs.declared.carry.Task.{Task}
-use Rattle.carrying.specs.declared.carry.Carried.{Carried}
+use Rattle.carrying.specs.declared.carry.Place.{Place}
 use Rattle.carrying.specs.Answers.{answerOf, wordsTo}
 use Rattle.carrying.specs.Putting.{Puts}
 
@@ -37,7 +38,8 @@ pub record Here (t : Task) (ws : List ℕ) (at n : ℕ) : Type 0 where
 
 -- one command c carried out, LAST or not, its answer put from word n on; where the message goes on, the next
 -- header stands at word `behind`
-pub record CarriesOne (t : Task) (c : Command) (last : Bool) (behind n : ℕ) (m s o : List ℕ) (r : Carried) (m' s' o' : List ℕ) : Type 0 where
+pub record CarriesOne (t : Task) (c : Command) (last : Bool) (behind n : ℕ) (m s o : List ℕ) (r : Place)
+    (m' s' o' : List ℕ) : Type 0 where
   pub stop : r .stop ≡ cond (fails (t .kind) (length m) c) true last
   pub next : r .stop ≡ false → r .next ≡ behind
   pub words : r .words ≡ n + 1 + length (answerOf (t .kind) (t .mark) m c .payload)
@@ -45,16 +47,17 @@ pub record CarriesOne (t : Task) (c : Command) (last : Bool) (behind n : ℕ) (m
   pub puts : Puts (t .keep) n (answeredWords (t .answer) (r .stop) (answerOf (t .kind) (t .mark) m c)) s o s' o'
 
 -- the same of the command that stands at word `at` of the words ws
-abbrev pub CarriesAt : Task → List ℕ → ℕ → ℕ → List ℕ → List ℕ → List ℕ → Carried → List ℕ → List ℕ → List ℕ → Type 0
+abbrev pub CarriesAt : Task → List ℕ → ℕ → ℕ → List ℕ → List ℕ → List ℕ → Place → List ℕ → List ℕ → List ℕ → Type 0
 CarriesAt t ws at n m s o r m' s' o' =
-    CarriesOne t (commandAt (t .byte0) ws at) (lastOf (getD ws at 0)) (at + 1 + bodyWords (t .byte0) (countOf (getD ws at 0))) n m s o r m' s' o'
+    CarriesOne t (commandAt (t .byte0) ws at) (lastOf (getD ws at 0))
+    (at + 1 + bodyWords (t .byte0) (countOf (getD ws at 0))) n m s o r m' s' o'
 
 -- a NOP does the same whatever memory holds, and leaves it
-abbrev pub CarriesNop : Task → List ℕ → ℕ → ℕ → List ℕ → List ℕ → Carried → List ℕ → List ℕ → Type 0
+abbrev pub CarriesNop : Task → List ℕ → ℕ → ℕ → List ℕ → List ℕ → Place → List ℕ → List ℕ → Type 0
 CarriesNop t ws at n s o r s' o' = (m : List ℕ) → CarriesAt t ws at n m s o r m s' o'
 
 -- "fails with Error": an Error header from word n on, and the message ends there
-pub record FailsThere (t : Task) (n : ℕ) (s o : List ℕ) (r : Carried) (s' o' : List ℕ) : Type 0 where
+pub record FailsThere (t : Task) (n : ℕ) (s o : List ℕ) (r : Place) (s' o' : List ℕ) : Type 0 where
   pub stop : r .stop ≡ true
   pub words : r .words ≡ n + 1
   pub puts : Puts (t .keep) n (headerFrom (t .answer) (codeOf Error) 0 true ∷ []) s o s' o'

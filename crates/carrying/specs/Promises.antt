@@ -1,5 +1,5 @@
--- What is promised of carrying out, in other words than its definitions: so a wrong definition cannot hide. The proofs are in
--- proofs/Laws/Promised.antt. Assumes nothing.
+-- What is promised of carrying out, in other words than its definitions: so a wrong definition cannot hide. The proofs
+-- are in proofs/Laws/Promises.antt. Assumes nothing.
 use Prim.Native.Nat.{ℕ, _+_, _/_, _<_, _≤_}
 use mathlib.Core.Path.{_≡_}
 use mathlib.Core.Bool.{true, false}
@@ -18,12 +18,15 @@ use Rattle.carrying.specs.Answers.{advertisement, failed, answerTo, word
 -- a failing command and all after it change nothing: "it touches nothing and no later command is done"
 abbrev pub Stops : Request → ℕ → List ℕ → Type 0
 Stops r mark memory =
-    (before : List Command) (c : Command) (after : List Command) → r .commands ≡ before ++ (c ∷ after) → fails (kindOf (r .byte0)) (length memory) c ≡ true
-    → (memoryAfter r memory ≡ memoryAfter (asking r before) memory) × (answerTo r mark memory ≡ answerTo (asking r (before ++ (c ∷ []))) mark memory)
+    (before : List Command) (c : Command) (after : List Command) → r .commands ≡ before ++ (c ∷ after)
+    → fails (kindOf (r .byte0)) (length memory) c ≡ true
+    → (memoryAfter r memory ≡ memoryAfter (asking r before) memory)
+    × (answerTo r mark memory ≡ answerTo (asking r (before ++ (c ∷ []))) mark memory)
 
--- a is the answer to the command c behind the OK commands `before`: a NOP's data are the first count words of the advertisement,
--- a read's the words of memory at that moment
-pub record AnsweredThen (r : Request) (mark : ℕ) (memory : List ℕ) (before : List Command) (c : Command) (a : Answered) : Type 0 where
+-- a is the answer to the command c behind the OK commands `before`: a NOP's data are the first count words of the
+-- advertisement, a read's the words of memory at that moment
+pub record AnsweredThen (r : Request) (mark : ℕ) (memory : List ℕ) (before : List Command) (c : Command)
+    (a : Answered) : Type 0 where
   pub error : fails (kindOf (r .byte0)) (length memory) c ≡ true → a ≡ failed
   pub fine : fails (kindOf (r .byte0)) (length memory) c ≡ false → a .status ≡ Ok
   pub nop : kindOf (r .byte0) ≡ Nop → a .payload ≡ take (c .count) (advertisement mark)
@@ -39,12 +42,14 @@ AnswersThen r mark memory =
     → carried (kindOf (r .byte0)) (length memory) before ≡ before
     → AnsweredThen r mark memory before c (getD (answerTo r mark memory) (length before) failed)
 
--- "Byte 1 of reads and NOPs is not looked at": with 0 in its place the answer is the same, and `Quiet` says that memory stays
+-- "Byte 1 of reads and NOPs is not looked at": with 0 in its place the answer is the same, and `Quiet` says that memory
+-- stays
 abbrev pub blank : Command → Command
 blank c = record { byte1 = 0; count = c .count; address = c .address; payload = c .payload }
 
 abbrev pub NotLookedAt : Request → ℕ → List ℕ → Type 0
-NotLookedAt r mark memory = (kindOf (r .byte0) ≡ Write → ⊥) → answerTo (asking r (map blank (r .commands))) mark memory ≡ answerTo r mark memory
+NotLookedAt r mark memory = (kindOf (r .byte0) ≡ Write → ⊥)
+    → answerTo (asking r (map blank (r .commands))) mark memory ≡ answerTo r mark memory
 
 -- the answer list fits the request, so it is no longer than a message may be
 pub record AnswerFits (r : Request) (mark : ℕ) (memory : List ℕ) : Type 0 where

@@ -1,4 +1,5 @@
--- The words of an answer, put where they are sent and kept. What the code of carrying out goes by. Assumes nothing.
+-- The words of an answer, put where they are sent and kept: what the code of carrying out goes by; nobody else needs to
+-- read it. Assumes nothing.
 use Prim.Native.Nat.{ℕ, _≤_}
 use mathlib.Core.Path.{_≡_}
 use mathlib.Core.Bool.{Bool, cond}

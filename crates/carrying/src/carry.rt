@@ -4,7 +4,7 @@ ghost use Prim.Native.Nat.{_<_, _≤_};
 ghost use Rattle.word.specs.Words.{wordsOf};
 ghost use Rattle.header.specs.declared.Kind.the-variants.{Nop, Write, Read};
 ghost use Rattle.message.specs.Request.{Means};
-ghost use Rattle.message.specs.Walk.{read, asked};
+ghost use Rattle.message.specs.Walk.{read, requestOf};
 ghost use Rattle.header.specs.Limits.{limit};
 ghost use Rattle.carrying.specs.Putting.{Room};
 ghost use Rattle.carrying.specs.Carry.{Here, CarriesAt, CarriesNop, FailsThere, Carries};
@@ -14,8 +14,8 @@ use header::Kind;
 use memory::moves;
 use message::address;
 
-// What is the same for every command of a message: its byte 0, the kind it names, the answer's byte 0, word 1 of the advertisement,
-// and whether the answer is kept.
+// What is the same for every command of a message: its byte 0, the kind it names, the answer's byte 0, word 1 of the
+// advertisement, and whether the answer is kept.
 pub struct Task {
     pub byte0: u32,
     pub kind: Kind,
@@ -24,17 +24,21 @@ pub struct Task {
     pub keep: bool,
 }
 
-// What one command came to: whether the message ends there, the words of the answer so far, and where the next header stands.
-pub struct Carried {
+// What one command came to: whether the message ends there, the words of the answer so far, and where the next header
+// stands.
+pub struct Place {
     pub stop: bool,
     pub words: usize,
     pub next: usize,
 }
 
 // The answer to a command that fails: it is the last.
-fn fail(stored: &mut [u32], output: &mut [u8], task: Task, n: usize) -> Carried
-    requires { ⌜ (task .answer < 256) × (n < limit) × Room (now stored) (now output) ⌝ }
-    ensures { λ r. ⌜ FailsThere task n (now (stored .entry)) (now (output .entry)) r (now (stored .exit)) (now (output .exit)) ⌝ }
+fn fail(stored: &mut [u32], output: &mut [u8], task: Task, n: usize) -> Place
+    requires { ⌜ (task .answer < 256)
+        × (n < limit)
+        × Room (now stored) (now output) ⌝ }
+    ensures { λ r. ⌜ FailsThere task n
+        (now (stored .entry)) (now (output .entry)) r (now (stored .exit)) (now (output .exit)) ⌝ }
 {
     putting::put_head(
         stored,
@@ -47,7 +51,7 @@ fn fail(stored: &mut [u32], output: &mut [u8], task: Task, n: usize) -> Carried
         true,
     );
     let words = n + 1;
-    Carried {
+    Place {
         stop: true,
         words,
         next: 0,
@@ -62,9 +66,12 @@ fn carry_nop(
     datagram: &[u8],
     at: usize,
     n: usize,
-) -> Carried
-    requires { ⌜ Here task (wordsOf (now datagram)) at n × Room (now stored) (now output) × (task .kind ≡ Nop) ⌝ }
-    ensures { λ r. ⌜ CarriesNop task (wordsOf (now (datagram .entry))) at n (now (stored .entry)) (now (output .entry)) r (now (stored .exit)) (now (output .exit)) ⌝ }
+) -> Place
+    requires { ⌜ Here task (wordsOf (now datagram)) at n
+        × Room (now stored) (now output)
+        × (task .kind ≡ Nop) ⌝ }
+    ensures { λ r. ⌜ CarriesNop task (wordsOf (now (datagram .entry))) at n
+        (now (stored .entry)) (now (output .entry)) r (now (stored .exit)) (now (output .exit)) ⌝ }
 {
     let h = word::word_at(datagram, at);
     let count = header::count(h);
@@ -82,7 +89,7 @@ fn carry_nop(
     putting::put_advert(stored, output, task.keep, n + 1, task.mark, count);
     let words = n + 1 + count;
     let next = at + 1 + count;
-    Carried {
+    Place {
         stop: last,
         words,
         next,
@@ -98,9 +105,12 @@ fn carry_write(
     datagram: &[u8],
     at: usize,
     n: usize,
-) -> Carried
-    requires { ⌜ Here task (wordsOf (now datagram)) at n × Room (now stored) (now output) × (task .kind ≡ Write) ⌝ }
-    ensures { λ r. ⌜ CarriesAt task (wordsOf (now (datagram .entry))) at n (now (memory .entry)) (now (stored .entry)) (now (output .entry)) r
+) -> Place
+    requires { ⌜ Here task (wordsOf (now datagram)) at n
+        × Room (now stored) (now output)
+        × (task .kind ≡ Write) ⌝ }
+    ensures { λ r. ⌜ CarriesAt task (wordsOf (now (datagram .entry))) at n
+        (now (memory .entry)) (now (stored .entry)) (now (output .entry)) r
         (now (memory .exit)) (now (stored .exit)) (now (output .exit)) ⌝ }
 {
     let h = word::word_at(datagram, at);
@@ -124,7 +134,7 @@ fn carry_write(
     );
     let next = moves::store_all(memory, base, datagram, from, count, header::byte1(h));
     let words = n + 1;
-    Carried {
+    Place {
         stop: last,
         words,
         next,
@@ -140,9 +150,12 @@ fn carry_read(
     datagram: &[u8],
     at: usize,
     n: usize,
-) -> Carried
-    requires { ⌜ Here task (wordsOf (now datagram)) at n × Room (now stored) (now output) × (task .kind ≡ Read) ⌝ }
-    ensures { λ r. ⌜ CarriesAt task (wordsOf (now (datagram .entry))) at n (now (memory .entry)) (now (stored .entry)) (now (output .entry)) r
+) -> Place
+    requires { ⌜ Here task (wordsOf (now datagram)) at n
+        × Room (now stored) (now output)
+        × (task .kind ≡ Read) ⌝ }
+    ensures { λ r. ⌜ CarriesAt task (wordsOf (now (datagram .entry))) at n
+        (now (memory .entry)) (now (stored .entry)) (now (output .entry)) r
         (now (memory .entry)) (now (stored .exit)) (now (output .exit)) ⌝ }
 {
     let h = word::word_at(datagram, at);
@@ -167,7 +180,7 @@ fn carry_read(
     let end = base + count;
     putting::put_run(stored, output, task.keep, n + 1, &memory[base..end]);
     let words = n + 1 + count;
-    Carried {
+    Place {
         stop: last,
         words,
         next,
@@ -183,9 +196,11 @@ fn carry_one(
     datagram: &[u8],
     at: usize,
     n: usize,
-) -> Carried
-    requires { ⌜ Here task (wordsOf (now datagram)) at n × Room (now stored) (now output) ⌝ }
-    ensures { λ r. ⌜ CarriesAt task (wordsOf (now (datagram .entry))) at n (now (memory .entry)) (now (stored .entry)) (now (output .entry)) r
+) -> Place
+    requires { ⌜ Here task (wordsOf (now datagram)) at n ⌝ }
+    requires { ⌜ Room (now stored) (now output) ⌝ }
+    ensures { λ r. ⌜ CarriesAt task (wordsOf (now (datagram .entry))) at n
+        (now (memory .entry)) (now (stored .entry)) (now (output .entry)) r
         (now (memory .exit)) (now (stored .exit)) (now (output .exit)) ⌝ }
 {
     let kind = task.kind;
@@ -194,7 +209,7 @@ fn carry_one(
         Kind::Write => carry_write(memory, stored, output, task, datagram, at, n),
         Kind::Read => carry_read(memory, stored, output, task, datagram, at, n),
         // No request is a response: its count is never allowed.
-        Kind::Response => Carried {
+        Kind::Response => Place {
             stop: true,
             words: n,
             next: at,
@@ -202,8 +217,9 @@ fn carry_one(
     }
 }
 
-// An accepted message, whose byte 0 is this: each command in order, up to the last or the first that fails. `mark` is word 1 of the
-// advertisement. The answer's words are counted, and stand at the front of the output and, if `keep`, of the stored words.
+// An accepted message, whose byte 0 is this: each command in order, up to the last or the first that fails. `mark` is
+// word 1 of the advertisement. The answer's words are counted, and stand at the front of the output and, if `keep`, of
+// the stored words.
 pub fn carry(
     memory: &mut [u32],
     stored: &mut [u32],
@@ -213,8 +229,11 @@ pub fn carry(
     mark: u32,
     keep: bool,
 ) -> usize
-    requires { ⌜ (read (now datagram) ≡ Means (asked (now datagram))) × (byte0 ≡ asked (now datagram) .byte0) × Room (now stored) (now output) ⌝ }
-    ensures { λ r. ⌜ Carries (asked (now (datagram .entry))) mark keep (now (memory .entry)) (now (stored .entry)) (now (output .entry)) r
+    requires { ⌜ (read (now datagram) ≡ Means (requestOf (now datagram)))
+        × (byte0 ≡ requestOf (now datagram) .byte0)
+        × Room (now stored) (now output) ⌝ }
+    ensures { λ r. ⌜ Carries (requestOf (now (datagram .entry))) mark keep
+        (now (memory .entry)) (now (stored .entry)) (now (output .entry)) r
         (now (memory .exit)) (now (stored .exit)) (now (output .exit)) ⌝ }
     ensures within { λ r. ⌜ r ≤ limit ⌝ }
 {

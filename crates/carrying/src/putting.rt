@@ -1,4 +1,5 @@
-// The answer, written as the commands are carried out: to the output and, for a message that is kept, to the stored words together.
+// The answer, written as the commands are carried out: to the output and, for a message that is kept, to the stored
+// words together.
 ghost use mathlib.Core.Path.{_≡_};
 ghost use mathlib.Core.List.{_∷_, []};
 ghost use Prim.Native.Nat.{_+_, _*_, _<_, _≤_};
@@ -24,7 +25,8 @@ fn keep_word(stored: &mut [u32], keep: bool, n: usize, w: u32)
 
 // A run of words of the stored answer, where it is kept.
 fn keep_words(stored: &mut [u32], keep: bool, n: usize, words: &[u32])
-    requires { ⌜ (length (now words) ≤ longest) × (n + length (now words) ≤ length (now stored)) ⌝ }
+    requires { ⌜ length (now words) ≤ longest ⌝ }
+    requires { ⌜ n + length (now words) ≤ length (now stored) ⌝ }
     ensures { λ _. ⌜ now (stored .exit) ≡ keptIn keep (now (stored .entry)) n (now (words .entry)) ⌝ }
 {
     if !keep {
@@ -35,8 +37,10 @@ fn keep_words(stored: &mut [u32], keep: bool, n: usize, words: &[u32])
 
 // One word of the answer.
 pub(crate) fn put_both(stored: &mut [u32], output: &mut [u8], keep: bool, n: usize, w: u32)
-    requires { ⌜ (n < length (now stored)) × (4 * n + 4 ≤ length (now output)) ⌝ }
-    ensures { λ _. ⌜ Puts keep n (w ∷ []) (now (stored .entry)) (now (output .entry)) (now (stored .exit)) (now (output .exit)) ⌝ }
+    requires { ⌜ n < length (now stored) ⌝ }
+    requires { ⌜ 4 * n + 4 ≤ length (now output) ⌝ }
+    ensures { λ _. ⌜ Puts keep n (w ∷ []) (now (stored .entry)) (now (output .entry)) (now (stored .exit))
+        (now (output .exit)) ⌝ }
 {
     word::put_word(output, n, w);
     keep_word(stored, keep, n, w);
@@ -44,7 +48,8 @@ pub(crate) fn put_both(stored: &mut [u32], output: &mut [u8], keep: bool, n: usi
 
 // The header of one command's answer.
 fn head(byte: u32, status: Status, count: usize, last: bool) -> u32
-    requires { ⌜ (byte < 256) × (count < 4096) ⌝ }
+    requires { ⌜ byte < 256 ⌝ }
+    requires { ⌜ count < 4096 ⌝ }
     ensures { λ r. ⌜ r ≡ headerFrom byte (codeOf status) count last ⌝ }
 {
     header::header_from(byte, answer::code(status), count, last)
@@ -61,16 +66,23 @@ pub(crate) fn put_head(
     count: usize,
     last: bool,
 )
-    requires { ⌜ (byte < 256) × (count < 4096) × (n < length (now stored)) × (4 * n + 4 ≤ length (now output)) ⌝ }
-    ensures { λ _. ⌜ Puts keep n (headerFrom byte (codeOf status) count last ∷ []) (now (stored .entry)) (now (output .entry)) (now (stored .exit)) (now (output .exit)) ⌝ }
+    requires { ⌜ (byte < 256)
+        × (count < 4096)
+        × (n < length (now stored))
+        × (4 * n + 4 ≤ length (now output)) ⌝ }
+    ensures { λ _. ⌜ Puts keep n (headerFrom byte (codeOf status) count last ∷ []) (now (stored .entry))
+        (now (output .entry)) (now (stored .exit)) (now (output .exit)) ⌝ }
 {
     put_both(stored, output, keep, n, head(byte, status, count, last));
 }
 
 // A run of words of the answer. One word, what most reads ask for, goes by itself.
 pub(crate) fn put_run(stored: &mut [u32], output: &mut [u8], keep: bool, n: usize, words: &[u32])
-    requires { ⌜ (length (now words) ≤ longest) × (n + length (now words) ≤ length (now stored)) × (4 * (n + length (now words)) ≤ length (now output)) ⌝ }
-    ensures { λ _. ⌜ Puts keep n (now (words .entry)) (now (stored .entry)) (now (output .entry)) (now (stored .exit)) (now (output .exit)) ⌝ }
+    requires { ⌜ (length (now words) ≤ longest)
+        × (n + length (now words) ≤ length (now stored))
+        × (4 * (n + length (now words)) ≤ length (now output)) ⌝ }
+    ensures { λ _. ⌜ Puts keep n (now (words .entry)) (now (stored .entry)) (now (output .entry)) (now (stored .exit))
+        (now (output .exit)) ⌝ }
 {
     if words.len() == 1 {
         put_both(stored, output, keep, n, words[0]);
@@ -89,8 +101,11 @@ pub(crate) fn put_advert(
     mark: u32,
     count: usize,
 )
-    requires { ⌜ (count ≤ 2) × (n + count ≤ length (now stored)) × (4 * (n + count) ≤ length (now output)) ⌝ }
-    ensures { λ _. ⌜ Puts keep n (take count (advertisement mark)) (now (stored .entry)) (now (output .entry)) (now (stored .exit)) (now (output .exit)) ⌝ }
+    requires { ⌜ (count ≤ 2)
+        × (n + count ≤ length (now stored))
+        × (4 * (n + count) ≤ length (now output)) ⌝ }
+    ensures { λ _. ⌜ Puts keep n (take count (advertisement mark)) (now (stored .entry)) (now (output .entry))
+        (now (stored .exit)) (now (output .exit)) ⌝ }
 {
     match count {
         0 => {

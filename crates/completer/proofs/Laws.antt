@@ -1,5 +1,4 @@
--- Laws of the crate `completer` that belong to no one function; the crates above cite them.
+-- The laws of the crate `completer`: its promises, and what the crates above cite.
 pub mod Benched
-pub mod Calls
+pub mod Called
 pub mod Discovered
-pub mod Verdicts

@@ -1,4 +1,5 @@
--- The bench sheet: its marked lines as one statement over one list, from bytes. `proofs/Laws/Benched.antt` computes it. Assumes nothing.
+-- The bench sheet: its marked lines as one statement over one list, from bytes. `proofs/Laws/Benched.antt` computes it.
+-- Assumes nothing.
 use Prim.Native.Nat.{ℕ}
 use mathlib.Core.Path.{_≡_}
 use mathlib.Core.Bool.{Bool, true, false, _&&_, Bool·beq}
@@ -11,17 +12,17 @@ use Rattle.header.specs.Limits.{limit, limitBytes}
 use Rattle.header.specs.Refusal.{refusedAt, refusal}
 use Rattle.message.specs.Examples.{sameRefusal, gapped, fifthDiffers}
 use Rattle.tags.specs.declared.record.TagRecord.{TagRecord}
-use Rattle.tags.specs.declared.rule.Verdict.the-variants.{Refused}
 use Rattle.tags.specs.Record.{freshRecord}
 use Rattle.tags.specs.Examples.{holding}
-use Rattle.completer.specs.Serving.{After, afterBy, after}
+use Rattle.completer.specs.Controller.{lent, After, left}
+use Rattle.completer.specs.Serving.{after}
 
 -- "Memory of 8 zero words but word 4 = F00DFACE"
 abbrev pub benchMemory : List ℕ
 benchMemory = 0 ∷ 0 ∷ 0 ∷ 0 ∷ 0xF00DFACE ∷ 0 ∷ 0 ∷ 0 ∷ []
 
--- a line of the sheet: the record at first, the datagrams in turn, and after the last one the refusal (number 0: none), all words
--- sent, the whole memory and the record
+-- a line of the sheet: the record at first, the datagrams in turn, and after the last one the refusal (number 0: none),
+-- all words sent, the whole memory and the record
 pub record Line : Type 0 where
   pub start : TagRecord
   pub datagrams : List (List ℕ)
@@ -37,7 +38,7 @@ line start datagrams number words memory tags =
 -- one call after another, each lent what the last one left
 unfoldable pub plays : After → List (List ℕ) → After
 plays a [] = a
-plays a (d ∷ ds) = plays (after (a .memory) (a .stored) (a .output) (a .served .tags) (bytesOf d)) ds
+plays a (d ∷ ds) = plays (after (a .controller) (a .output) (bytesOf d)) ds
 
 unfoldable pub same : List ℕ → List ℕ → Bool
 same [] [] = true
@@ -50,13 +51,14 @@ sameRecord a b = Bool·beq (a .fresh) (b .fresh) && eqb (a .tag) (b .tag) && eqb
 
 -- what is there at first: nothing stored, nothing in the output
 unfoldable pub benchStart : TagRecord → After
-benchStart tags = afterBy (Refused (refusal 0)) benchMemory (replicate limit 0) (replicate limitBytes 0) tags (record { byte0 = 0; commands = [] })
+benchStart tags = left (refusal 0) 0 (lent benchMemory (replicate limit 0) tags) (replicate limitBytes 0)
 
 unfoldable pub right : Line → Bool
 right l =
     let a = plays (benchStart (l .start)) (l .datagrams) in
-    sameRefusal (a .served .refusal) (l .given) && same (take (a .served .sent) (a .output)) (bytesOf (l .words)) && same (a .memory) (l .memory)
-    && sameRecord (a .served .tags) (l .tags)
+    sameRefusal (a .refusal) (l .given) && same (take (a .sent) (a .output)) (bytesOf (l .words))
+    && same (a .controller .memory) (l .memory)
+    && sameRecord (a .controller .tags) (l .tags)
 
 unfoldable pub every : List Line → Bool
 every [] = true
@@ -78,22 +80,36 @@ unfoldable pub benchSheet : List Line
 benchSheet =
     line freshRecord ((0x80010080 ∷ 0x00000004 ∷ []) ∷ []) 0 (0x800100B0 ∷ 0x0000230C ∷ []) benchMemory freshRecord
     ∷ line freshRecord ((0x800100A0 ∷ 0x00000010 ∷ []) ∷ []) 0 (0x800100B0 ∷ 0xF00DFACE ∷ []) benchMemory freshRecord
-    ∷ line freshRecord ((0x80010F90 ∷ 0x00000004 ∷ 0xFEEDC0DE ∷ []) ∷ []) 0 (0x800000B0 ∷ []) (memoryWith 0 0xFEEDC0DE) freshRecord
+    ∷ line freshRecord ((0x80010F90 ∷ 0x00000004 ∷ 0xFEEDC0DE ∷ []) ∷ []) 0 (0x800000B0
+    ∷ []) (memoryWith 0 0xFEEDC0DE) freshRecord
     ∷ line freshRecord (writeFeed ∷ []) 0 (0x80000030 ∷ []) (memoryWith 0 0xFEEDC0DE) (holding 0 1)
     ∷ line freshRecord (writeFeed ∷ discoverZero ∷ writeFeed ∷ []) 0 (0x80000030 ∷ []) benchMemory (holding 0 1)
-    ∷ line freshRecord (writeFeed ∷ discoverZero ∷ writeFeed ∷ (0x80010411 ∷ 0x00000004 ∷ 0xAABBCCDD ∷ []) ∷ []) 0 (0x80000031 ∷ [])
+    ∷ line freshRecord (writeFeed ∷ discoverZero ∷ writeFeed ∷ (0x80010411 ∷ 0x00000004 ∷ 0xAABBCCDD ∷ [])
+    ∷ []) 0 (0x80000031 ∷ [])
     (memoryWith 0 0x00BB0000) (holding 1 1)
-    ∷ line freshRecord (writeFeed ∷ (0x80010F12 ∷ 0x00000004 ∷ 0x00000000 ∷ []) ∷ []) 11 [] (memoryWith 0 0xFEEDC0DE) (holding 0 1)
+    ∷ line freshRecord (writeFeed ∷ (0x80010F12 ∷ 0x00000004 ∷ 0x00000000 ∷ [])
+    ∷ []) 11 [] (memoryWith 0 0xFEEDC0DE) (holding 0 1)
     ∷ line (holding 15 1) (writeFeed ∷ []) 0 (0x80000030 ∷ []) (memoryWith 0 0xFEEDC0DE) (holding 0 1)
     ∷ line freshRecord ((0x80020020 ∷ 0x0000001C ∷ []) ∷ []) 0 (0x80000230 ∷ []) benchMemory (holding 0 1)
-    ∷ line freshRecord ((0x00010F10 ∷ 0x00000000 ∷ 0x11111111 ∷ 0x80010F10 ∷ 0x00000020 ∷ 0x22222222 ∷ []) ∷ []) 0 (0x00000030 ∷ 0x80000230 ∷ [])
+    ∷ line freshRecord ((0x00010F10 ∷ 0x00000000 ∷ 0x11111111 ∷ 0x80010F10 ∷ 0x00000020 ∷ 0x22222222 ∷ [])
+    ∷ []) 0 (0x00000030 ∷ 0x80000230 ∷ [])
     (memoryWith 0x11111111 0) (holding 0 2)
-    ∷ line freshRecord ((0x80010F50 ∷ 0x00000004 ∷ 0x00000001 ∷ 0x00000000 ∷ []) ∷ []) 0 (0x80000270 ∷ []) benchMemory (holding 0 1)
+    ∷ line freshRecord ((0x80010F50 ∷ 0x00000004 ∷ 0x00000001 ∷ 0x00000000 ∷ []) ∷ []) 0 (0x80000270
+    ∷ []) benchMemory (holding 0 1)
     -- [3] "Add a bench line for each side, at addresses 8 and 12": carried out, and 8
-    ∷ line freshRecord (gapped 8 ∷ []) 0 (0x80000030 ∷ []) (0 ∷ 0 ∷ 0x00220044 ∷ 0x55007700 ∷ 0xF00DFACE ∷ 0 ∷ 0 ∷ 0 ∷ []) (holding 0 1)
+    ∷ line freshRecord (gapped 8 ∷ []) 0 (0x80000030 ∷ []) (0 ∷ 0 ∷ 0x00220044 ∷ 0x55007700 ∷ 0xF00DFACE ∷ 0 ∷ 0 ∷ 0
+    ∷ []) (holding 0 1)
     ∷ line freshRecord (gapped 12 ∷ []) 8 [] benchMemory freshRecord
     -- [4] "refused 4 at 12": four writes stand before it, and none is carried out
-    ∷ record { start = freshRecord; datagrams = fifthDiffers ∷ []; given = refusedAt 4 12; words = []; memory = benchMemory; tags = freshRecord }
+    ∷ record {
+      start = freshRecord;
+      datagrams = fifthDiffers
+          ∷ [];
+      given = refusedAt 4 12;
+      words = [];
+      memory = benchMemory;
+      tags = freshRecord;
+    }
     -- [6] 1, "length 1 to" 2,243: a stored answer of so many words, and of one more
     ∷ line (holding 15 2243) (writeFeed ∷ []) 0 (0x80000030 ∷ []) (memoryWith 0 0xFEEDC0DE) (holding 0 1)
     ∷ line (holding 15 2244) (writeFeed ∷ []) 1 [] benchMemory (holding 15 2244)

@@ -1,6 +1,9 @@
--- What the contracts of the crate `completer` cite. Called and BenchSheet have no module: the one is what is promised of a call, the
--- other document 01's lines, which the checker computes.
+-- What the contracts of the crate `completer` cite. Some have no module: Controller is the state that both modules
+-- speak of, Settling what the inside of `serve` goes by, Called what is promised of a call, BenchSheet document 01's
+-- lines, which the checker computes.
+pub mod Controller
 pub mod Verdict
 pub mod Serving
+pub mod Settling
 pub mod Called
 pub mod BenchSheet

@@ -3,15 +3,17 @@ use Prim.Native.Nat.{ℕ}
 use mathlib.Core.Bool.{Bool, false, cond}
 use mathlib.Core.List.{List}
 use lib.Dec.{ltb, leb}
-use Rattle.header.specs.Refusal.{refusal}
+use lib.ListN.{length}
 use Rattle.header.specs.Limits.{limitBytes}
-use Rattle.message.specs.Request.{Request, Reading, Wrong, Means}
+use Rattle.header.specs.Refusal.{refusal}
+use Rattle.message.specs.Request.{Request, Reading, Refused, Means}
 use Rattle.message.specs.Walk.{read}
 use Rattle.tags.specs.declared.record.TagRecord.{TagRecord}
 use Rattle.tags.specs.declared.rule.Verdict.{Verdict}
-use Rattle.tags.specs.declared.rule.Verdict.the-variants.{Refused}
-use Rattle.tags.specs.Record.{keptOk, mostMemory}
+use Rattle.tags.specs.declared.rule.Verdict.the-variants.{Refused as RefusedBy}
+use Rattle.tags.specs.Record.{mostMemory, keptOk}
 use Rattle.tags.specs.Rule.{ruleOf}
+use Rattle.completer.specs.Controller.{Controller}
 
 -- 1, memory and output: "memory .. or output has a forbidden length"
 unfoldable pub lentOk : ℕ → ℕ → Bool
@@ -19,10 +21,15 @@ lentOk memory output = cond (ltb memory 1) false (cond (ltb mostMemory memory) f
 
 -- "Then 10, then 11": a message that 2 to 10 let by is judged by its tag
 abbrev pub judged : TagRecord → Reading Request → Verdict
-judged tags (Wrong r) = Refused r
+judged tags (Refused r) = RefusedBy r
 judged tags (Means r) = ruleOf tags (r .byte0)
 
--- "Checks 1 and 2 come first. Then the commands are walked"
-unfoldable pub verdictOf : ℕ → ℕ → ℕ → TagRecord → List ℕ → Verdict
-verdictOf memory stored output tags dg =
-    cond (lentOk memory output) (cond (keptOk stored tags) (judged tags (read dg)) (Refused (refusal 1))) (Refused (refusal 1))
+-- "Checks 1 and 2 come first. Then the commands are walked": by the lengths of memory, stored answer and output
+unfoldable pub verdictBy : ℕ → ℕ → ℕ → TagRecord → List ℕ → Verdict
+verdictBy memory stored output tags dg =
+    cond (lentOk memory output) (cond (keptOk stored tags) (judged tags (read dg)) (RefusedBy (refusal 1)))
+    (RefusedBy (refusal 1))
+
+-- the same of a controller that is lent this output
+abbrev pub verdictOf : Controller → List ℕ → List ℕ → Verdict
+verdictOf c output dg = verdictBy (length (c .memory)) (length (c .stored)) (length output) (c .tags) dg

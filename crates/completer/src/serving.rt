@@ -5,10 +5,12 @@ ghost use Prim.Native.Nat.{_*_, _≤_};
 ghost use lib.ListN.{length};
 ghost use Rattle.header.specs.Limits.{limit};
 ghost use Rattle.message.specs.Request.{Means};
-ghost use Rattle.message.specs.Walk.{read, asked};
+ghost use Rattle.message.specs.Walk.{read, requestOf};
 ghost use Rattle.carrying.specs.Putting.{Room};
 ghost use Rattle.tags.specs.Record.{recordOk};
-ghost use Rattle.completer.specs.Serving.{carriesOf, keepsOf, refusalOf, againOf, Serves, ServesBy, Settles};
+ghost use Rattle.completer.specs.Controller.{lent, left};
+ghost use Rattle.completer.specs.Serving.{afterBy, after};
+ghost use Rattle.completer.specs.Settling.{carriesOf, keepsOf, refusalOf, againOf, Settles};
 ghost use Rattle.tags.specs.declared.rule.Verdict.the-variants.{New, Discovery};
 use crate::verdict;
 use carrying::carry;
@@ -17,7 +19,8 @@ use tags::record;
 use tags::record::TagRecord;
 use tags::rule::Verdict;
 
-// What a call gives: the refusal (number 0: none), the bytes sent, which stand at the front of the output, and the record.
+// What a call gives: the refusal (number 0: none), the bytes sent, which stand at the front of the output, and the
+// record.
 #[repr(C)]
 pub struct Served {
     pub refusal: Refusal,
@@ -55,9 +58,9 @@ fn refusal_of(verdict: Verdict) -> Refusal
 {
     match verdict {
         Verdict::Refused(refusal) => refusal,
-        Verdict::New => Refusal { number: 0, at: 0 },
-        Verdict::Repeat => Refusal { number: 0, at: 0 },
-        Verdict::Discovery => Refusal { number: 0, at: 0 },
+        Verdict::New => Refusal::of(Refusal::NONE),
+        Verdict::Repeat => Refusal::of(Refusal::NONE),
+        Verdict::Discovery => Refusal::of(Refusal::NONE),
     }
 }
 
@@ -75,7 +78,10 @@ fn again(verdict: Verdict, tags: TagRecord) -> usize
 
 // A message that is not carried out: a refusal, or the stored answer sent again.
 fn settle(stored: &[u32], output: &mut [u8], tags: TagRecord, verdict: Verdict) -> Served
-    requires { ⌜ (carriesOf verdict ≡ false) × (againOf verdict tags ≤ limit) × (againOf verdict tags ≤ length (now stored)) × (4 * againOf verdict tags ≤ length (now output)) ⌝ }
+    requires { ⌜ (carriesOf verdict ≡ false)
+        × (againOf verdict tags ≤ limit)
+        × (againOf verdict tags ≤ length (now stored))
+        × (4 * againOf verdict tags ≤ length (now output)) ⌝ }
     ensures { λ r. ⌜ Settles verdict (now (stored .entry)) (now (output .entry)) tags r (now (output .exit)) ⌝ }
 {
     let n = again(verdict, tags);
@@ -100,11 +106,16 @@ fn act(
     datagram: &[u8],
     keep: bool,
 ) -> Served
-    requires { ⌜ (read (now datagram) ≡ Means (asked (now datagram))) × (recordOk tags ≡ true) × Room (now stored) (now output) ⌝ }
-    ensures { λ r. ⌜ ServesBy (cond keep New Discovery) (now (memory .entry)) (now (stored .entry)) (now (output .entry)) tags (asked (now (datagram .entry))) r
-        (now (memory .exit)) (now (stored .exit)) (now (output .exit)) ⌝ }
+    requires { ⌜ (read (now datagram) ≡ Means (requestOf (now datagram)))
+        × (recordOk tags ≡ true)
+        × Room (now stored) (now output) ⌝ }
+    ensures { λ r. ⌜ left (r .refusal) (r .sent)
+        (lent (now (memory .exit)) (now (stored .exit)) (r .tags)) (now (output .exit))
+        ≡ afterBy (cond keep New Discovery)
+        (lent (now (memory .entry)) (now (stored .entry)) tags) (now (output .entry))
+        (requestOf (now (datagram .entry))) ⌝ }
 {
-    let byte0 = word::wide(datagram[0]);
+    let byte0 = word::from_byte(datagram[0]);
     let n = carry::carry(
         memory,
         stored,
@@ -115,7 +126,7 @@ fn act(
         keep,
     );
     Served {
-        refusal: Refusal { number: 0, at: 0 },
+        refusal: Refusal::of(Refusal::NONE),
         sent: 4 * n,
         tags: record::record_after(tags, byte0, n, keep),
     }
@@ -129,8 +140,10 @@ pub fn serve(
     tags: TagRecord,
     datagram: &[u8],
 ) -> Served
-    ensures { λ r. ⌜ Serves (now (memory .entry)) (now (stored .entry)) (now (output .entry)) tags (now (datagram .entry)) r
-        (now (memory .exit)) (now (stored .exit)) (now (output .exit)) ⌝ }
+    ensures { λ r. ⌜ left (r .refusal) (r .sent)
+        (lent (now (memory .exit)) (now (stored .exit)) (r .tags)) (now (output .exit))
+        ≡ after
+        (lent (now (memory .entry)) (now (stored .entry)) tags) (now (output .entry)) (now (datagram .entry)) ⌝ }
 {
     let verdict = verdict::verdict_of(memory.len(), stored.len(), output.len(), tags, datagram);
     if carries(verdict) {

@@ -3,7 +3,7 @@ ghost use mathlib.Core.Path.{_≡_};
 ghost use mathlib.Core.Bool.{true};
 ghost use Rattle.message.specs.Walk.{read};
 ghost use Rattle.tags.specs.Record.{recordOk};
-ghost use Rattle.completer.specs.Verdict.{lentOk, judged, verdictOf};
+ghost use Rattle.completer.specs.Verdict.{lentOk, judged, verdictBy};
 use header::refusal::Refusal;
 use message::walk;
 use message::walk::Walked;
@@ -32,8 +32,8 @@ fn judge(tags: TagRecord, datagram: &[u8]) -> Verdict
 {
     let walked = walk::walk(datagram);
     match walked {
-        Walked::Malformed(refusal) => Verdict::Refused(refusal),
-        Walked::WellFormed(_) => rule::rule(tags, word::wide(datagram[0])),
+        Walked::Refused(refusal) => Verdict::Refused(refusal),
+        Walked::WellFormed(byte0) => rule::rule(tags, byte0),
     }
 }
 
@@ -45,19 +45,13 @@ pub fn verdict_of(
     tags: TagRecord,
     datagram: &[u8],
 ) -> Verdict
-    ensures { λ r. ⌜ r ≡ verdictOf memory stored output tags (now (datagram .entry)) ⌝ }
+    ensures { λ r. ⌜ r ≡ verdictBy memory stored output tags (now (datagram .entry)) ⌝ }
 {
     if !lent_ok(memory, output) {
-        return Verdict::Refused(Refusal {
-            number: Refusal::LENT,
-            at: 0,
-        });
+        return Verdict::Refused(Refusal::of(Refusal::LENT));
     }
     if !record::kept_ok(stored, tags) {
-        return Verdict::Refused(Refusal {
-            number: Refusal::LENT,
-            at: 0,
-        });
+        return Verdict::Refused(Refusal::of(Refusal::LENT));
     }
     judge(tags, datagram)
 }

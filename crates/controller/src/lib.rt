@@ -1,12 +1,15 @@
 // The controller's call in place, for its main loop: the tag record is lent by reference.
 //
 // The one function is what the firmware's static library exports; it holds the whole call, with no wrapper around it.
-ghost use Rattle.controller.specs.InPlace.{ServesInPlace};
+ghost use mathlib.Core.Path.{_≡_};
+ghost use Rattle.completer.specs.Controller.{lent, left};
+ghost use Rattle.completer.specs.Serving.{after};
 use completer::serving;
 use header::refusal::Refusal;
 use tags::record::TagRecord;
 
-// What a call gives beside the record: the refusal (number 0: none) and the bytes sent, which stand at the front of the output.
+// What a call gives beside the record: the refusal (number 0: none) and the bytes sent, which stand at the front of the
+// output.
 #[repr(C)]
 pub struct Sent {
     pub refusal: Refusal,
@@ -22,8 +25,11 @@ pub extern "C" fn charkhavo_serve(
     tags: &mut TagRecord,
     datagram: &[u8],
 ) -> Sent
-    ensures { λ r. ⌜ ServesInPlace (now (memory .entry)) (now (stored .entry)) (now (output .entry)) (now (tags .entry)) (now (datagram .entry)) r
-        (now (memory .exit)) (now (stored .exit)) (now (output .exit)) (now (tags .exit)) ⌝ }
+    ensures { λ r. ⌜ left (r .refusal) (r .sent)
+        (lent (now (memory .exit)) (now (stored .exit)) (now (tags .exit))) (now (output .exit))
+        ≡ after
+        (lent (now (memory .entry)) (now (stored .entry)) (now (tags .entry))) (now (output .entry))
+        (now (datagram .entry)) ⌝ }
 {
     let served = serving::serve(memory, stored, output, *tags, datagram);
     *tags = served.tags;

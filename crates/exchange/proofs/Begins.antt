@@ -12,18 +12,20 @@ use Rattle.message.specs.Discovery.{discoveryBytes}
 use Rattle.answer.specs.Discovery.{discoveryAnswer}
 use Rattle.tags.specs.declared.record.TagRecord.{TagRecord}
 use Rattle.tags.specs.Record.{markOf}
-use Rattle.tags.proofs.Laws.Records.{holds, mark-fresh, mark-held, mark-small}
+use Rattle.tags.proofs.Laws.Record.{holds, mark-fresh, mark-held, mark-small}
+use Rattle.completer.specs.Controller.{Controller}
+use Rattle.completer.specs.Serving.{after}
 use Rattle.completer.proofs.Laws.Discovered.{discovery-answered}
 use Rattle.initiator.specs.declared.sender.Sender.{Sender}
 use Rattle.initiator.specs.declared.sender.Moved.{Moved}
 use Rattle.initiator.specs.Sender.{freshSender, startedAt, startOf}
 use Rattle.initiator.proofs.Laws.Starting.{started-fresh, started-held}
 use Rattle.once.specs.Tags.{nextTag, tagIn, Start}
-use Rattle.exchange.specs.Ends.{Controller, Loader, ends, sentIn, serving}
+use Rattle.exchange.specs.Ends.{Loader, ends, sentIn}
 use Rattle.exchange.specs.Terms.{terms, Sound}
 use Rattle.exchange.specs.Sight.{storedBy, sight}
 use Rattle.exchange.specs.Promise.{FreshPair, Discovered, Begins}
-use Rattle.exchange.proofs.Going.{lent-ok, kept-fits}
+use Rattle.exchange.proofs.Going.{allowed-is}
 use Rattle.exchange.proofs.Started.{started-at}
 
 -- the sender that is made where the record is this one
@@ -44,8 +46,8 @@ mark-made c h = go (c .tags .fresh) refl
 answer-is : {c : Controller} {s : Loader} (d : Discovered c s) → d .answer ≡ bytesOf (discoveryAnswer (markOf (c .tags)))
 answer-is {c} d =
     let e = d .earlier in
-    let a = discovery-answered (e .memory) (e .stored) (d .lent) (e .tags) (lent-ok e (d .lent) (d .sound) (d .long)) (kept-fits e (d .lent) (d .sound) (d .long)) in
-    let g : sentIn (serving e (d .lent) discoveryBytes) ≡ some (bytesOf (discoveryAnswer (markOf (e .tags)))) =
+    let a = discovery-answered e (d .lent) (allowed-is e (d .lent) (d .sound) (d .long)) in
+    let g : sentIn (after e (d .lent) discoveryBytes) ≡ some (bytesOf (discoveryAnswer (markOf (e .tags)))) =
     ap sentIn a ∙ ap some (words-front (d .lent) (discoveryAnswer (markOf (e .tags)))) in
     Option·some-injective _ _ (sym (d .given) ∙ g) ∙ ap (λ (t : TagRecord). bytesOf (discoveryAnswer (markOf t))) (d .since)
 

@@ -13,9 +13,9 @@ use Rattle.header.specs.declared.Kind.{Kind}
 use Rattle.header.specs.declared.Kind.the-variants.{Nop, Write, Read, Response}
 use Rattle.header.specs.Limits.{limitBytes}
 use Rattle.header.specs.Header.{kindOf, discoveryOf}
-use Rattle.message.specs.Request.{Request, Reading, Wrong, Means}
+use Rattle.message.specs.Request.{Request, Reading, Refused, Means}
 use Rattle.message.specs.Walk.{read}
-use Rattle.initiator.specs.Sender.{asksAs}
+use Rattle.initiator.specs.Asking.{asksAs}
 use Rattle.once.specs.Runs.{Always}
 use Rattle.once.specs.World.{World, Event, offer, send, arrive, back, other, Origin, message, stranger, finished, sent, given, room, step}
 use Rattle.once.specs.Promise.{Ages, Timely, Allowed}
@@ -45,11 +45,11 @@ changes-not Read e q = let z : _≡_ {A = ℕ} 0 1 = cc in omega arith
 changes-not Response e q = let z : _≡_ {A = ℕ} 0 1 = cc in omega arith
 
 abbrev finds? : Reading Request → Bool
-finds? (Wrong n) = true
+finds? (Refused n) = true
 finds? (Means r) = discoveryOf (r .byte0) && changesNot? (kindOf (r .byte0))
 
 finds-so : (p : Reading Request) → finds? p ≡ true → findsOnly p
-finds-so (Wrong n) e = tt
+finds-so (Refused n) e = tt
 finds-so (Means r) e = let p = both-true (discoveryOf (r .byte0)) _ e in (p .0, changes-not (kindOf (r .byte0)) (p .1))
 
 module _ (A : Ages) where

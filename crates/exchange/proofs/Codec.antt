@@ -10,15 +10,15 @@ use Rattle.header.specs.declared.Kind.{Kind}
 use Rattle.header.specs.Header.{tagOf, kindOf, discoveryOf}
 use Rattle.header.specs.Refusal.{refusal}
 use Rattle.header.specs.Limits.{lengthOk}
-use Rattle.message.specs.Request.{Request, Reading, Wrong, Means, Fits}
-use Rattle.message.specs.Walk.{read, asked}
+use Rattle.message.specs.Request.{Request, Reading, Refused, Means, Fits}
+use Rattle.message.specs.Walk.{read, requestOf}
 use Rattle.message.proofs.Laws.Faults.{no-mean}
 use Rattle.message.proofs.Laws.Back.{written-read}
 use Rattle.message.proofs.Laws.Going.{read-first}
 use Rattle.message.proofs.Laws.Back as message
 use Rattle.answer.specs.Answer.{Answered, answerByte, judge}
-use Rattle.answer.proofs.Laws.Answers.{answer-tag, answer-discovery}
-use Rattle.answer.proofs.Laws.Judged.{judge-encoded, other-byte}
+use Rattle.answer.proofs.Laws.Heads.{answer-tag, answer-discovery}
+use Rattle.answer.proofs.Laws.Accepts.{judge-encoded, other-byte}
 use Rattle.answer.proofs.Laws.Looking.{judge-long}
 use Rattle.carrying.specs.Answers.{failed}
 use Rattle.initiator.specs.Outcome.{judgedBy}
@@ -28,13 +28,13 @@ use Rattle.exchange.specs.Sight.{Plain, Encodes, Answers}
 
 -- a plain message asks for its request, which fits; its first byte is byte 0
 module _ {d : List ℕ} (p : Plain d) where
-  pub asked-is : asked d ≡ p .request
+  pub asked-is : requestOf d ≡ p .request
   asked-is = message.asked-is d (p .request) (p .is)
 
   pub plain-fits : Fits (p .request)
   plain-fits = written-read d (p .request) (p .bytes) (p .is) .0
 
-  pub asked-fits : Fits (asked d)
+  pub asked-fits : Fits (requestOf d)
   asked-fits = rw asked-is plain-fits
 
   pub first-is : getD d 0 0 ≡ p .request .byte0
@@ -69,15 +69,15 @@ judged-headed r a items m = go (lengthOk (length a)) refl
 
 -- an answer with another byte 0 is 33
 module _ {d : List ℕ} (p : Plain d) (r : Request) {a : List ℕ} (h : Headed r a) where
-  unlike : (answerByte (r .byte0) ≡ answerByte (p .request .byte0) → ⊥) → judgedBy (read d) a ≡ Wrong (refusal 33)
+  unlike : (answerByte (r .byte0) ≡ answerByte (p .request .byte0) → ⊥) → judgedBy (read d) a ≡ Refused (refusal 33)
   unlike n = judged-by p a ∙ other-byte (p .request) a (h .long) (λ e. n (sym (h .first) ∙ e))
 
   -- of another tag
-  pub other-tag : (tagOf (r .byte0) ≡ tagOf (p .request .byte0) → ⊥) → judgedBy (read d) a ≡ Wrong (refusal 33)
+  pub other-tag : (tagOf (r .byte0) ≡ tagOf (p .request .byte0) → ⊥) → judgedBy (read d) a ≡ Refused (refusal 33)
   other-tag n = unlike (λ e. n (sym (answer-tag (r .byte0)) ∙ ap tagOf e ∙ answer-tag (p .request .byte0)))
 
   -- of a discovery
-  pub other-kind : (discoveryOf (r .byte0) ≡ discoveryOf (p .request .byte0) → ⊥) → judgedBy (read d) a ≡ Wrong (refusal 33)
+  pub other-kind : (discoveryOf (r .byte0) ≡ discoveryOf (p .request .byte0) → ⊥) → judgedBy (read d) a ≡ Refused (refusal 33)
   other-kind n = unlike (λ e. n (sym (answer-discovery (r .byte0)) ∙ ap discoveryOf e ∙ answer-discovery (p .request .byte0)))
 
 -- the result of a command is that of its answer
@@ -109,5 +109,5 @@ module _ {d : List ℕ} (p : Plain d) {o : Outcome} {a : List ℕ} (h : Answers 
   pub own-told : told d a ≡ o
   unfolding told
   own-told =
-      let k : kindOf (asked d .byte0) ≡ kindOf (getD d 0 0) = ap (λ (r : Request). kindOf (r .byte0)) (asked-is p) ∙ ap kindOf (sym (first-is p)) in
+      let k : kindOf (requestOf d .byte0) ≡ kindOf (getD d 0 0) = ap (λ (r : Request). kindOf (r .byte0)) (asked-is p) ∙ ap kindOf (sym (first-is p)) in
       rw own-judged (each-told d (h .items) ∙ ap (λ (x : Kind). resultsIn x (h .items)) (sym k) ∙ sym (h .says))

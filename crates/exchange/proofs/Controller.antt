@@ -14,67 +14,68 @@ use Rattle.header.specs.declared.Kind.the-variants.{Write}
 use Rattle.header.specs.declared.refusal.Refusal.{Refusal}
 use Rattle.header.specs.Header.{tagOf, kindOf, discoveryOf}
 use Rattle.header.specs.Refusal.{refusal}
-use Rattle.message.specs.Request.{Request, Reading, Wrong, Means, Fits}
-use Rattle.message.specs.Walk.{read, asked}
+use Rattle.message.specs.Request.{Request, Reading, Refused, Means, Fits}
+use Rattle.message.specs.Walk.{read, requestOf}
 use Rattle.message.proofs.Laws.Back.{written-read}
 use Rattle.message.proofs.Laws.Exactly.{refusal-range}
 use Rattle.message.proofs.Laws.Back as message
 use Rattle.memory.specs.Moves.{memoryAfter}
-use Rattle.memory.proofs.Laws.Promised.{same-length, stays-words, quiet}
-use Rattle.carrying.proofs.Laws.Promised.{answer-to}
-use Rattle.tags.specs.declared.rule.Verdict.the-variants.{Refused, New, Repeat, Discovery}
+use Rattle.memory.proofs.Laws.Promises.{same-length, stays-words, quiet}
+use Rattle.carrying.proofs.Laws.Promises.{answer-to}
+use Rattle.tags.specs.declared.rule.Verdict.the-variants.{Refused as RefusedBy, New, Repeat, Discovery}
 use Rattle.tags.specs.Record.{markOf}
 use Rattle.tags.specs.Rule.{ruleOf}
-use Rattle.tags.proofs.Laws.Records.{rule-finds, record-held}
-use Rattle.completer.specs.Serving.{After, afterBy}
+use Rattle.tags.proofs.Laws.Record.{rule-finds, record-held}
+use Rattle.completer.specs.Serving.{afterBy, after}
 use Rattle.completer.specs.Verdict.{judged}
-use Rattle.completer.proofs.Laws.Calls.{repeat-sends}
+use Rattle.completer.specs.Controller.{Controller, withMemory, After}
+use Rattle.completer.proofs.Laws.Called.{repeat-sends, verdict-is}
 use Rattle.once.specs.Tags.{new, again, late, verdict, tagIn, answerIn, Carried, Kept}
 use Rattle.exchange.specs.Outcomes.{outcomeOver}
-use Rattle.exchange.specs.Ends.{Controller, ends, controllerIn, sentIn, serving}
+use Rattle.exchange.specs.Ends.{ends, sentIn}
 use Rattle.exchange.specs.Terms.{Lendable, findsOnly, Finds, terms, Sound}
 use Rattle.exchange.specs.Sight.{Plain, Encodes, Answers, Strange, storedBy, sight}
 use Rattle.exchange.proofs.Codec.{asked-is, asked-fits, first-is}
-use Rattle.exchange.proofs.Going.{mark-free, verdict-is, serving-is, judged-is, items, words, encodes, short, some-words}
+use Rattle.exchange.proofs.Going.{mark-free, allowed-is, serving-is, judged-is, items, words, encodes, short, some-words}
 
 -- a new message
 module _ (c : Controller) (b d : List ℕ) (h : Sound c) (l : Lendable b) (p : Plain d) (v : verdict (tagIn (storedBy c)) (tagOf (getD d 0 0)) ≡ new) where
   abbrev reply : List ℕ
-  reply = words c h (asked d) (asked-fits p)
+  reply = words c h (requestOf d) (asked-fits p)
 
-  is-new : serving c b d ≡ afterBy New (c .memory) (c .stored) b (c .tags) (asked d)
+  is-new : after c b d ≡ afterBy New c b (requestOf d)
   is-new = serving-is c b h l d New (judged-is c p new v)
 
-  first-tag : tagOf (asked d .byte0) ≡ tagOf (getD d 0 0)
+  first-tag : tagOf (requestOf d .byte0) ≡ tagOf (getD d 0 0)
   first-tag = ap (λ (r : Request). tagOf (r .byte0)) (asked-is p) ∙ ap tagOf (sym (first-is p))
 
   says : Answers d (outcomeOver (c .memory) d) (bytesOf reply)
   unfolding outcomeOver
   says =
       record {
-        items = items c h (asked d) (asked-fits p);
-        encodes = encodes c h (asked d) (asked-fits p);
+        items = items c h (requestOf d) (asked-fits p);
+        encodes = encodes c h (requestOf d) (asked-fits p);
         says =
-            rw (answer-to (asked d) 0 (c .memory), answer-to (asked d) (markOf (c .tags)) (c .memory))
-            (mark-free (kindOf (asked d .byte0)) 0 (markOf (c .tags)) (c .memory) (asked d .commands));
+            rw (answer-to (requestOf d) 0 (c .memory), answer-to (requestOf d) (markOf (c .tags)) (c .memory))
+            (mark-free (kindOf (requestOf d .byte0)) 0 (markOf (c .tags)) (c .memory) (requestOf d .commands));
       }
 
-  sound-new : Sound (controllerIn (afterBy New (c .memory) (c .stored) b (c .tags) (asked d)))
+  sound-new : Sound (afterBy New c b (requestOf d) .controller)
   sound-new =
-      let n = same-length (asked d) (c .memory) in
-      let k = short c h (asked d) (asked-fits p) in
-      let z = some-words c h (asked d) (asked-fits p) in
+      let n = same-length (requestOf d) (c .memory) in
+      let k = short c h (requestOf d) (asked-fits p) in
+      let z = some-words c h (requestOf d) (asked-fits p) in
       record {
-        words = stays-words (asked d) (c .memory) (h .words);
+        words = stays-words (requestOf d) (c .memory) (h .words);
         some = rw n (h .some);
         most = rw n (h .most);
         stored = rw (length-put (c .stored) 0 reply (omega (arith, h .stored))) (h .stored);
-        tags = record-held (tagOf (asked d .byte0)) (length reply) (omega arith) z k;
+        tags = record-held (tagOf (requestOf d .byte0)) (length reply) (omega arith) z k;
       }
 
   pub does-new : Carried ends terms sight c d (ends .serve c b d)
   does-new =
-      subst (λ (a : After). Carried ends terms sight c d (controllerIn a, sentIn a)) (sym is-new)
+      subst (λ (a : After). Carried ends terms sight c d (a .controller, sentIn a)) (sym is-new)
       (record {
         answer = bytesOf reply;
         given = ap some (words-front b reply);
@@ -106,64 +107,64 @@ module _ (c : Controller) (b : List ℕ) (h : Sound c) (l : Lendable b) where
       → ((ends .serve c b d) .1 ≡ answerIn (storedBy c)) × Kept ends terms sight c ((ends .serve c b d) .0)
   does-again {d} p v =
       let e = serving-is c b h l d Repeat (judged-is c p again v) in
-      let s = repeat-sends (c .memory) (c .stored) b (c .tags) d (verdict-is c b h l d ∙ judged-is c p again v) in (
-        subst (λ (a : After). take (a .served .sent) (a .output) ≡ bytesOf (take (c .tags .words) (c .stored)) → sentIn a ≡ answerIn (storedBy c)) (sym e)
+      let s = repeat-sends c b d (verdict-is c b d (allowed-is c b h l) ∙ judged-is c p again v) in (
+        subst (λ (a : After). take (a .sent) (a .output) ≡ bytesOf (take (c .tags .words) (c .stored)) → sentIn a ≡ answerIn (storedBy c)) (sym e)
             (λ q. ap some q ∙ answer-stored c (tagOf (getD d 0 0)) v) (s .sent),
-        subst (λ (a : After). Kept ends terms sight c (controllerIn a)) (sym e) (kept-same c h),
+        subst (λ (a : After). Kept ends terms sight c (a .controller)) (sym e) (kept-same c h),
       )
 
   pub does-late : {d : List ℕ} → Plain d → verdict (tagIn (storedBy c)) (tagOf (getD d 0 0)) ≡ late
       → ((ends .serve c b d) .1 ≡ none) × Kept ends terms sight c ((ends .serve c b d) .0)
   does-late {d} p v =
-      let e = serving-is c b h l d (Refused (refusal 11)) (judged-is c p late v) in
-      (ap sentIn e, subst (λ (a : After). Kept ends terms sight c (controllerIn a)) (sym e) (kept-same c h))
+      let e = serving-is c b h l d (RefusedBy (refusal 11)) (judged-is c p late v) in
+      (ap sentIn e, subst (λ (a : After). Kept ends terms sight c (a .controller)) (sym e) (kept-same c h))
 
   -- a quiet datagram: refused, or a discovery that is no write
   abbrev Quietly : List ℕ → After → Type 0
-  Quietly x a = Kept ends terms sight c (controllerIn a) × ((y : List ℕ) → sentIn a ≡ some y → Strange y)
+  Quietly x a = Kept ends terms sight c (a .controller) × ((y : List ℕ) → sentIn a ≡ some y → Strange y)
 
-  refused : (x : List ℕ) (n : Refusal) → Finds x → read x ≡ Wrong n → Quietly x (serving c b x)
+  refused : (x : List ℕ) (n : Refusal) → Finds x → read x ≡ Refused n → Quietly x (after c b x)
   refused x n f e =
-      subst (Quietly x) (sym (serving-is c b h l x (Refused n) (ap (judged (c .tags)) e)))
+      subst (Quietly x) (sym (serving-is c b h l x (RefusedBy n) (ap (judged (c .tags)) e)))
       (kept-same c h, λ y q. let z : eqb (n .number) 0 ≡ false = ne-eqb (n .number) 0 (λ i. absurd (omega (arith, refusal-range x (f .bytes) n e .0))) in nothing (rw z at q))
     where
       nothing : {y : List ℕ} → none ≡ some y → Strange y
       nothing q = let i : _≡_ {A = ℕ} 0 1 = cc in absurd (omega arith)
 
-  found : (x : List ℕ) (r : Request) → Finds x → read x ≡ Means r → (discoveryOf (r .byte0) ≡ true) × (kindOf (r .byte0) ≡ Write → ⊥) → Quietly x (serving c b x)
+  found : (x : List ℕ) (r : Request) → Finds x → read x ≡ Means r → (discoveryOf (r .byte0) ≡ true) × (kindOf (r .byte0) ≡ Write → ⊥) → Quietly x (after c b x)
   found x r f e q =
       subst (Quietly x) (sym (serving-is c b h l x Discovery (ap (judged (c .tags)) e ∙ finds))) (
         record {
-          sound = subst (λ (m : List ℕ). Sound (record { memory = m; stored = c .stored; tags = c .tags })) (sym same) h;
+          sound = subst (λ (m : List ℕ). Sound (withMemory c m)) (sym same) h;
           memory = same;
           stored = refl;
           last = λ d u. u;
         },
         λ y z.
             record {
-              request = asked x;
+              request = requestOf x;
               fits = fits;
               finds = rw is (q .0);
-              items = items c h (asked x) fits;
-              encodes = subst (Encodes (asked x) (items c h (asked x) fits)) (sym (words-front b (words c h (asked x) fits)) ∙ Option·some-injective _ _ z) (encodes c h (asked x) fits);
+              items = items c h (requestOf x) fits;
+              encodes = subst (Encodes (requestOf x) (items c h (requestOf x) fits)) (sym (words-front b (words c h (requestOf x) fits)) ∙ Option·some-injective _ _ z) (encodes c h (requestOf x) fits);
             },
       )
     where
-      is : asked x ≡ r
+      is : requestOf x ≡ r
       is = message.asked-is x r e
 
-      fits : Fits (asked x)
+      fits : Fits (requestOf x)
       fits = rw is (written-read x r (f .bytes) e .0)
 
       finds : ruleOf (c .tags) (r .byte0) ≡ Discovery
       finds = rule-finds (c .tags) (r .byte0) (q .0)
 
-      same : memoryAfter (asked x) (c .memory) ≡ c .memory
-      same = quiet (asked x) (c .memory) (rw is (q .1))
+      same : memoryAfter (requestOf x) (c .memory) ≡ c .memory
+      same = quiet (requestOf x) (c .memory) (rw is (q .1))
 
-  pub does-quiet : {x : List ℕ} → Finds x → Quietly x (serving c b x)
+  pub does-quiet : {x : List ℕ} → Finds x → Quietly x (after c b x)
   does-quiet {x} f = go (read x) refl (f .only)
     where
-      go : (p : Reading Request) → read x ≡ p → findsOnly p → Quietly x (serving c b x)
-      go (Wrong n) e q = refused x n f e
+      go : (p : Reading Request) → read x ≡ p → findsOnly p → Quietly x (after c b x)
+      go (Refused n) e q = refused x n f e
       go (Means r) e q = found x r f e q

@@ -9,7 +9,7 @@ use Rattle.word.specs.Enables.{byteOf, bitOf, ofBytes, merged}
 use Rattle.header.specs.Limits.{limit, limitBytes, lengthOk}
 use Rattle.header.specs.Header.{kindNo, byte0From, headerFrom, headOf}
 use Rattle.message.specs.Faults.{patternOk, faultOf}
-use Rattle.message.specs.Walk.{stepOn, commandOf, commandsFrom, ended, read, asked}
+use Rattle.message.specs.Walk.{stepOn, commandOf, commandsFrom, ended, read, requestOf}
 use Rattle.message.specs.Address.{addressFrom}
 use Rattle.message.specs.Request.{replies}
 use Rattle.message.specs.Discovery.{discoveryBytes}
@@ -18,13 +18,15 @@ use Rattle.memory.specs.Moves.{outside, fetches, storesBehind, stores, moves, a
 use Rattle.carrying.specs.Answers.{answerOf, answers, answerTo, wordsTo}
 use Rattle.tags.specs.Rule.{repeats, expected, ruleOf}
 use Rattle.tags.specs.Record.{markOf, heldOk, recordOk, keptOk}
-use Rattle.completer.specs.Verdict.{lentOk, verdictOf}
+use Rattle.completer.specs.Verdict.{lentOk, verdictBy}
 use Rattle.completer.specs.Serving.{answerBy, after}
+use Rattle.completer.specs.Controller.{Controller}
 use Rattle.initiator.specs.Outcome.{judgedBy, endingAt, dataAt}
-use Rattle.initiator.specs.Sender.{asksAs, askFault, offerFault, sendFault, offerOf, sendOf, takeOf}
+use Rattle.initiator.specs.Asking.{plainly, askedAs, asksAs}
+use Rattle.initiator.specs.Sender.{offering, sending, offerOf, sendOf, takeOf}
 use Rattle.once.specs.World.{start}
 use Rattle.exchange.specs.Outcomes.{each, told}
-use Rattle.exchange.specs.Ends.{Controller, ends}
+use Rattle.exchange.specs.Ends.{ends}
 use Rattle.exchange.specs.Promise.{Begins, ages, morning}
 use Rattle.exchange.specs.Example.{controller, loader, output, night, Played}
 use Rattle.exchange.proofs.Checked.{below-so, always-so}
@@ -49,7 +51,7 @@ abbrev before : Controller
 before = record { memory = 7 ∷ []; stored = replicate limit 9; tags = morning controller loader night .controller .tags }
 
 pub played : Played
-unfolding wordsOf bytesOf put putWords byteOf bitOf ofBytes merged kindNo byte0From headerFrom headOf patternOk faultOf stepOn addressFrom commandOf commandsFrom replies ended lengthOk read statusNo answerByte answerFault seenOf lookOn answersFrom judge answeredWords answerWords outside fetches storesBehind stores moves afterMoves memoryAfter answerOf answers answerTo wordsTo asked repeats expected markOf lentOk heldOk recordOk keptOk ruleOf verdictOf answerBy after discoveryBytes judgedBy endingAt dataAt asksAs askFault offerFault sendFault offerOf sendOf takeOf each told
+unfolding wordsOf bytesOf put putWords byteOf bitOf ofBytes merged kindNo byte0From headerFrom headOf patternOk faultOf stepOn addressFrom commandOf commandsFrom replies ended lengthOk read statusNo answerByte answerFault seenOf lookOn answersFrom judge answeredWords answerWords outside fetches storesBehind stores moves afterMoves memoryAfter answerOf answers answerTo wordsTo requestOf repeats expected markOf lentOk heldOk recordOk keptOk ruleOf verdictBy answerBy after discoveryBytes judgedBy endingAt dataAt plainly askedAs asksAs offering sending offerOf sendOf takeOf each told
 played =
     record {
       begins = begun;

@@ -14,29 +14,29 @@ use Rattle.header.specs.declared.Kind.the-variants.{Nop, Write, Read, Response}
 use Rattle.header.specs.Limits.{limit}
 use Rattle.header.specs.Header.{tagOf, discoveryOf, nextTag}
 use Rattle.header.specs.Refusal.{refusal}
-use Rattle.header.proofs.Laws.Lengths.{right}
+use Rattle.header.proofs.Laws.Limits.{right}
 use Rattle.message.specs.Request.{Command, Request, Fits}
-use Rattle.message.specs.Walk.{read, asked}
+use Rattle.message.specs.Walk.{read, requestOf}
 use Rattle.answer.specs.declared.Status.the-variants.{Ok}
 use Rattle.answer.specs.Answer.{Answered}
-use Rattle.answer.proofs.Laws.Answering.{encoded-is}
+use Rattle.answer.proofs.Laws.Giving.{encoded-is}
 use Rattle.memory.specs.Moves.{fails, movesOf, afterMoves}
 use Rattle.carrying.specs.Answers.{okWords, done, failed, answers, answerTo}
-use Rattle.carrying.proofs.Laws.Promised.{answers-none, answers-more, words-to, answer-fits}
+use Rattle.carrying.proofs.Laws.Promises.{answers-none, answers-more, words-to, answer-fits}
 use Rattle.tags.specs.declared.rule.Verdict.{Verdict}
 use Rattle.tags.specs.declared.rule.Verdict.the-variants.{Refused, New, Repeat}
 use Rattle.tags.specs.Rule.{repeats, expected, ruleOf}
-use Rattle.tags.specs.Record.{markOf, keptOk}
-use Rattle.tags.proofs.Laws.Records.{holds, rule-plain, repeats-fresh, repeats-by, expected-fresh, expected-by, mark-small, kept-ok}
-use Rattle.completer.specs.Verdict.{lentOk, judged, verdictOf}
-use Rattle.completer.specs.Serving.{answerBy, afterBy}
-use Rattle.completer.proofs.Laws.Calls as completer
-use Rattle.completer.proofs.Laws.Calls.{lent-fits, called-by, answer-by}
+use Rattle.tags.specs.Record.{markOf}
+use Rattle.tags.proofs.Laws.Record.{holds, rule-plain, repeats-fresh, repeats-by, expected-fresh, expected-by, mark-small, kept-ok}
+use Rattle.completer.specs.Verdict.{judged}
+use Rattle.completer.specs.Serving.{answerBy, afterBy, after}
+use Rattle.completer.specs.Called.{allowed}
+use Rattle.completer.specs.Controller.{Controller}
+use Rattle.completer.proofs.Laws.Called.{lent-fits, called-by, answer-by}
 use Rattle.initiator.specs.Outcome.{dataOf}
 use Rattle.once.specs.Tags as Tags
 use Rattle.once.specs.Tags.{new, again, late, verdict, tagIn}
 use Rattle.exchange.specs.Outcomes.{resultsIn}
-use Rattle.exchange.specs.Ends.{Controller, serving}
 use Rattle.exchange.specs.Terms.{Lendable, Sound}
 use Rattle.exchange.specs.Sight.{Plain, Encodes, storedBy}
 use Rattle.exchange.proofs.Codec.{first-is, encodes-judged, judged-headed}
@@ -64,18 +64,12 @@ mark-free kind a b m (c ∷ cs) =
 
 -- what an allowed controller is lent passes check 1
 module _ (c : Controller) (b : List ℕ) (h : Sound c) (l : Lendable b) where
-  pub lent-ok : lentOk (length (c .memory)) (length b) ≡ true
-  lent-ok = lent-fits (length (c .memory)) (length b) (h .some) (h .most) l
-
-  pub kept-fits : keptOk (length (c .stored)) (c .tags) ≡ true
-  kept-fits = kept-ok (length (c .stored)) (c .tags) (h .stored) (h .tags)
-
-  pub verdict-is : (x : List ℕ) → verdictOf (length (c .memory)) (length (c .stored)) (length b) (c .tags) x ≡ judged (c .tags) (read x)
-  verdict-is x = completer.verdict-is (c .memory) (c .stored) b (c .tags) lent-ok kept-fits x
+  pub allowed-is : allowed c b ≡ true
+  allowed-is = rw (lent-fits (length (c .memory)) (length b) (h .some) (h .most) l, kept-ok (length (c .stored)) (c .tags) (h .stored) (h .tags))
 
   -- so the call goes by the verdict on the datagram
-  pub serving-is : (x : List ℕ) (v : Verdict) → judged (c .tags) (read x) ≡ v → serving c b x ≡ afterBy v (c .memory) (c .stored) b (c .tags) (asked x)
-  serving-is x v e = called-by (c .memory) (c .stored) b (c .tags) lent-ok kept-fits x v e
+  pub serving-is : (x : List ℕ) (v : Verdict) → judged (c .tags) (read x) ≡ v → after c b x ≡ afterBy v c b (requestOf x)
+  serving-is x v e = called-by c b x allowed-is v e
 
 -- the rule of tags is that of `once`
 abbrev ruled : Tags.Verdict → Verdict
@@ -119,17 +113,17 @@ module _ (c : Controller) (h : Sound c) (r : Request) (f : Fits r) where
   items = answerTo r (markOf (c .tags)) (c .memory)
 
   abbrev pub words : List ℕ
-  words = answerBy (c .tags) r (c .memory)
+  words = answerBy c r
 
   pub encodes : Encodes r items (bytesOf words)
   encodes =
       record {
         fits = answer-fits r (markOf (c .tags)) (c .memory) f (h .words) (omega (arith, mark-small (c .tags) (h .tags))) .fits;
-        is = rw (answer-by (c .tags) r (c .memory), words-to r (markOf (c .tags)) (c .memory)) (sym (encoded-is r items));
+        is = rw (answer-by c r, words-to r (markOf (c .tags)) (c .memory)) (sym (encoded-is r items));
       }
 
   pub short : length words ≤ limit
-  short = rw (answer-by (c .tags) r (c .memory)) (answer-fits r (markOf (c .tags)) (c .memory) f (h .words) (omega (arith, mark-small (c .tags) (h .tags))) .short)
+  short = rw (answer-by c r) (answer-fits r (markOf (c .tags)) (c .memory) f (h .words) (omega (arith, mark-small (c .tags) (h .tags))) .short)
 
   pub some-words : 0 < length words
   some-words = omega (arith, right (length (bytesOf words)) (judged-headed r (bytesOf words) items (encodes-judged f encodes) .long) .some, length-bytes words)

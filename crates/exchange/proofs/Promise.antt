@@ -2,9 +2,9 @@
 use native.Mathlib.Omega.{arith}
 use lib.ListN.{length, getD}
 use Rattle.header.specs.Header.{kindOf}
-use Rattle.message.specs.Walk.{asked}
+use Rattle.message.specs.Walk.{requestOf}
 use Rattle.carrying.specs.Answers.{failed, answerTo}
-use Rattle.carrying.proofs.Laws.Promised.{answers-then}
+use Rattle.carrying.proofs.Laws.Promises.{answers-then}
 use Rattle.once.proofs.Promise.{finished-or-one-more}
 use Rattle.once.proofs.Tagged.{tagged-safety, tagged-progress, tagged-extends, tagged-says}
 use Rattle.exchange.specs.Promise.{Memory, FinishedOutcomes, OutcomeThen, AllFinished, NeverStuck, Tags}
@@ -26,8 +26,8 @@ finished-outcomes c s b es n =
 pub outcome-then : OutcomeThen
 unfolding outcomeOver
 outcome-then memory message before c behind e ok =
-    let items = answerTo (asked message) 0 memory in
-    (getD items (length before) failed, result-at (kindOf (asked message .byte0)) items (length before), answers-then (asked message) 0 memory before c behind e ok)
+    let items = answerTo (requestOf message) 0 memory in
+    (getD items (length before) failed, result-at (kindOf (requestOf message .byte0)) items (length before), answers-then (requestOf message) 0 memory before c behind e ok)
 
 pub all-finished : AllFinished
 all-finished c s b = tagged-progress tagged c s (begins c s b)

@@ -9,13 +9,14 @@ use borrow.Author.Tests.{eqb-true, eq-eqb}
 use lib.ListN.{length, getD}
 use Rattle.header.specs.Header.{tagOf, discoveryOf}
 use Rattle.header.specs.Refusal.{refusal}
-use Rattle.message.specs.Request.{Request, Reading, Wrong, Means}
+use Rattle.message.specs.Request.{Request, Reading, Refused, Means}
 use Rattle.message.specs.Walk.{read}
 use Rattle.message.proofs.Laws.Going.{read-first}
 use Rattle.initiator.specs.declared.sender.Moved.{Moved}
 use Rattle.initiator.specs.Outcome.{judgedBy}
-use Rattle.initiator.specs.Sender.{asksAs, sendFault}
-use Rattle.initiator.proofs.Laws.Sending.{asks-wrong, asks-discovery, asks-tag}
+use Rattle.initiator.specs.Asking.{asksAs}
+use Rattle.initiator.specs.Sender.{sendFault}
+use Rattle.initiator.proofs.Laws.Asked.{asks-wrong, asks-discovery, asks-tag}
 use Rattle.initiator.proofs.Laws.Checked.{offer-fine, offer-full, send-fine, sends-all, idle-fault, sends-none, take-idle, take-accepts, take-refuses}
 use Rattle.once.specs.Tags.{Waits, Still, Turned, Ended}
 use Rattle.exchange.specs.Outcomes.{Outcome, told}
@@ -36,7 +37,7 @@ offers-plain s d f = go (read d) refl
     )
 
     go : (p : Reading Request) → read d ≡ p → Plain d × (tagOf (getD d 0 0) ≡ s .sender .next)
-    go (Wrong r) e = absurd (false≢true (asks-wrong (s .sender .next) d r e ∙ f .asked))
+    go (Refused r) e = absurd (false≢true (asks-wrong (s .sender .next) d r e ∙ f .asked))
     go (Means r) e = by r e (discoveryOf (getD d 0 0)) refl
 
 asks-true : (n : ℕ) {d : List ℕ} (p : Plain d) → tagOf (getD d 0 0) ≡ n → asksAs n (read d) ≡ true
@@ -101,9 +102,9 @@ module _ {s : Loader} {d : List ℕ} (w : Waits ends terms sight s d) where
       ap (λ (r : Moved). takenIn r s a) (take-accepts (s .sender) (s .message) a fine (h .items) g) ∙ rw t
 
   -- one that is 33 does not
-  refuses : (a : List ℕ) → judgedBy (read d) a ≡ Wrong (refusal 33) → Turned ends terms sight s (ends .take s a)
+  refuses : (a : List ℕ) → judgedBy (read d) a ≡ Refused (refusal 33) → Turned ends terms sight s (ends .take s a)
   refuses a g =
-      let h : judgedBy (read (s .message)) a ≡ Wrong (refusal 33) = rw lent g in
+      let h : judgedBy (read (s .message)) a ≡ Refused (refusal 33) = rw lent g in
       turned s _ (ap (λ (r : Moved). takenIn r s a) (take-refuses (s .sender) (s .message) a fine (refusal 33) h))
 
   pub refuses-other : {e : List ℕ} {o : Outcome} {a : List ℕ} → Plain e → Answers e o a → (tagOf (getD e 0 0) ≡ tagOf (getD d 0 0) → ⊥) → Turned ends terms sight s (ends .take s a)

@@ -10,7 +10,7 @@ use Rattle.word.specs.Enables.{byteOf, bitOf, ofBytes, merged}
 use Rattle.header.specs.Header.{kindNo, byte0From, headerFrom, headOf}
 use Rattle.header.specs.Limits.{lengthOk}
 use Rattle.message.specs.Faults.{patternOk, faultOf}
-use Rattle.message.specs.Walk.{stepOn, commandOf, commandsFrom, ended, read, asked}
+use Rattle.message.specs.Walk.{stepOn, commandOf, commandsFrom, ended, read, requestOf}
 use Rattle.message.specs.Address.{addressFrom}
 use Rattle.message.specs.Request.{replies}
 use Rattle.message.specs.Discovery.{discoveryBytes}
@@ -19,10 +19,11 @@ use Rattle.memory.specs.Moves.{outside, fetches, storesBehind, stores, moves, a
 use Rattle.carrying.specs.Answers.{answerOf, answers, answerTo, wordsTo}
 use Rattle.tags.specs.Rule.{repeats, expected, ruleOf}
 use Rattle.tags.specs.Record.{markOf, heldOk, recordOk, keptOk}
-use Rattle.completer.specs.Verdict.{lentOk, verdictOf}
+use Rattle.completer.specs.Verdict.{lentOk, verdictBy}
 use Rattle.completer.specs.Serving.{answerBy, after}
 use Rattle.initiator.specs.Outcome.{judgedBy, endingAt, dataAt}
-use Rattle.initiator.specs.Sender.{asksAs, askFault, offerFault, sendFault, offerOf, sendOf, takeOf}
+use Rattle.initiator.specs.Asking.{plainly, askedAs, asksAs}
+use Rattle.initiator.specs.Sender.{offering, sending, offerOf, sendOf, takeOf}
 use Rattle.once.specs.World.{World, finished, start}
 use Rattle.once.specs.Promise.{made}
 use Rattle.exchange.specs.Outcomes.{each, told}
@@ -45,7 +46,7 @@ broken m w n o f unlike s = unlike (ap (λ l. getD l 0 0) (s .memory) ∙ ap (λ
 -- With 15 made 16 the first of sixteen messages is carried out again. With 16 made 17 the seventeenth is finished by the answer to the
 -- first, and was never carried out.
 pub sharp : Sharp
-unfolding wordsOf bytesOf put putWords byteOf bitOf ofBytes merged kindNo byte0From headerFrom headOf patternOk faultOf stepOn addressFrom commandOf commandsFrom replies ended lengthOk read statusNo answerByte answerFault seenOf lookOn answersFrom judge answeredWords answerWords outside fetches storesBehind stores moves afterMoves memoryAfter answerOf answers answerTo wordsTo asked repeats expected markOf lentOk heldOk recordOk keptOk ruleOf verdictOf answerBy after discoveryBytes judgedBy endingAt dataAt asksAs askFault offerFault sendFault offerOf sendOf takeOf each told
+unfolding wordsOf bytesOf put putWords byteOf bitOf ofBytes merged kindNo byte0From headerFrom headOf patternOk faultOf stepOn addressFrom commandOf commandsFrom replies ended lengthOk read statusNo answerByte answerFault seenOf lookOn answersFrom judge answeredWords answerWords outside fetches storesBehind stores moves afterMoves memoryAfter answerOf answers answerTo wordsTo requestOf repeats expected markOf lentOk heldOk recordOk keptOk ruleOf verdictBy answerBy after discoveryBytes judgedBy endingAt dataAt plainly askedAs asksAs offering sending offerOf sendOf takeOf each told
 sharp = (
   (
     always-so laterRequests (start ends controller loader) lateRequest refl,

@@ -1,42 +1,31 @@
--- The two ends of this project, as `once` wants them: each call is the definition that the contract of its function cites.
--- Assumes nothing.
+-- The two ends of this project, as `once` wants them: each call is the definition that the contract of its function
+-- cites. Assumes nothing.
 use Prim.Native.Nat.{ℕ}
 use mathlib.Core.Bool.{cond}
 use mathlib.Core.Option.{Option, none, some}
 use mathlib.Core.List.{List, [], _∷_}
 use lib.Dec.{eqb}
 use lib.ListN.{take}
-use Rattle.tags.specs.declared.record.TagRecord.{TagRecord}
-use Rattle.completer.specs.Serving.{After, after}
+use Rattle.completer.specs.Controller.{Controller, After}
+use Rattle.completer.specs.Serving.{after}
 use Rattle.initiator.specs.declared.sender.Sender.{Sender}
 use Rattle.initiator.specs.declared.sender.Moved.{Moved}
 use Rattle.initiator.specs.Sender.{offerOf, sendOf, takeOf}
 use Rattle.once.specs.World.{Ends}
 use Rattle.exchange.specs.Outcomes.{Outcome, told}
 
--- The controller: the memory and the stored answer that are lent to each call, and the tag record.
-pub record Controller : Type 0 where
-  pub memory : List ℕ
-  pub stored : List ℕ
-  pub tags : TagRecord
-
 -- The loader: the sender's record, and the message that is lent to it.
 pub record Loader : Type 0 where
   pub sender : Sender
   pub message : List ℕ
 
--- `serve`: the controller after it, and "the first n of the output, n being the returned length"; nothing where it refuses
-abbrev pub controllerIn : After → Controller
-controllerIn a = record { memory = a .memory; stored = a .stored; tags = a .served .tags }
-
+-- `serve`: the controller after it, and "the first n of the output, n being the returned length"; nothing where it
+-- refuses
 abbrev pub sentIn : After → Option (List ℕ)
-sentIn a = cond (eqb (a .served .refusal .number) 0) (some (take (a .served .sent) (a .output))) none
-
-abbrev pub serving : Controller → List ℕ → List ℕ → After
-serving c output datagram = after (c .memory) (c .stored) output (c .tags) datagram
+sentIn a = cond (eqb (a .refusal .number) 0) (some (take (a .sent) (a .output))) none
 
 abbrev pub serveBy : Controller → List ℕ → List ℕ → Controller × Option (List ℕ)
-serveBy c output datagram = (controllerIn (serving c output datagram), sentIn (serving c output datagram))
+serveBy c output datagram = (after c output datagram .controller, sentIn (after c output datagram))
 
 -- `offer`: an accepted message stays lent to the sender
 abbrev pub offeredIn : Moved → Loader → List ℕ → Loader
@@ -49,7 +38,8 @@ handed (b ∷ bytes) = some (b ∷ bytes)
 
 -- `take`, and what the outcome functions tell where it accepts
 abbrev pub takenIn : Moved → Loader → List ℕ → Loader × List Outcome
-takenIn r s answer = cond (eqb (r .refusal .number) 0) (record { sender = r .sender; message = s .message }, told (s .message) answer ∷ []) (s, [])
+takenIn r s answer = cond (eqb (r .refusal .number) 0)
+    (record { sender = r .sender; message = s .message }, told (s .message) answer ∷ []) (s, [])
 
 abbrev pub ends : Ends
 ends =

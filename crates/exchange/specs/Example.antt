@@ -1,6 +1,6 @@
--- A closed night from bytes: a write and a read, a send that comes late and one that never comes, an arrival and an answer that come
--- twice, a discovery in between whose answer reaches the sender, and a sender made anew. proofs/Example.antt computes it. Assumes
--- nothing.
+-- A closed night from bytes: a write and a read, a send that comes late and one that never comes, an arrival and an
+-- answer that come twice, a discovery in between whose answer reaches the sender, and a sender made anew.
+-- proofs/Example.antt computes it. Assumes nothing.
 use Prim.Native.Nat.{ℕ, _+_}
 use mathlib.Core.Path.{_≡_}
 use mathlib.Core.Bool.{false}
@@ -12,10 +12,11 @@ use Rattle.header.specs.Limits.{limit, limitBytes}
 use Rattle.message.specs.Discovery.{discoveryBytes}
 use Rattle.answer.specs.declared.Status.the-variants.{Ok}
 use Rattle.tags.specs.Record.{freshRecord}
+use Rattle.completer.specs.Controller.{Controller}
 use Rattle.initiator.specs.declared.outcome.Ending.the-variants.{Ended}
 use Rattle.initiator.specs.Sender.{freshSender, startOf}
 use Rattle.once.specs.World.{Event, offer, send, arrive, back, other, message, stranger}
-use Rattle.exchange.specs.Ends.{Controller, Loader, ends}
+use Rattle.exchange.specs.Ends.{Loader, ends}
 use Rattle.exchange.specs.Promise.{Begins, Night, morning}
 
 -- A fresh pair: a memory of two zero words, and a stored answer of the least length.
@@ -51,8 +52,8 @@ night =
     -- the second send comes, and its answer
     send 0 ∷ arrive 3 output ∷ back 4 ∷ []
 
--- what the controller gave at each arrival, the words of it: 80000030 to the write, each time; 800200B0, the limit and 10 to the
--- discovery; 80020031 and both words to the reading
+-- what the controller gave at each arrival, the words of it: 80000030 to the write, each time; 800200B0, the limit and
+-- 10 to the discovery; 80020031 and both words to the reading
 abbrev pub Given : Type 0
 Given =
     morning controller loader night .answers
@@ -77,6 +78,7 @@ pub record Played : Type 0 where
   pub given : Given
   pub memory : morning controller loader night .controller .memory ≡ 0 ∷ 0xFEEDC0DE ∷ []
   pub outcomes : morning controller loader night .outcomes
-      ≡ (record { ending = Ended Ok; words = [] } ∷ []) ∷ (record { ending = Ended Ok; words = 0 ∷ 0xFEEDC0DE ∷ [] } ∷ []) ∷ []
+      ≡ (record { ending = Ended Ok; words = [] } ∷ [])
+      ∷ (record { ending = Ended Ok; words = 0 ∷ 0xFEEDC0DE ∷ [] } ∷ []) ∷ []
   pub sender : morning controller loader night .sender .sender ≡ record { next = 2; waits = false }
   pub anew : Anew

@@ -1,6 +1,6 @@
--- What a reader has to believe, and nothing else: definitions only. Read them in this order.
--- Promise: the theorems. Ends: the two ends and their calls. Terms: messages, memory and what is lent. Outcomes: what an outcome is.
--- Example: a closed night from bytes. Sharp: two that the premises keep out. Sight: what the facts behind the theorems look at.
+-- What a reader has to believe, and nothing else: definitions only. Read them in this order. Promise: the theorems.
+-- Ends: the two ends and their calls. Terms: messages, memory and what is lent. Outcomes: what an outcome is. Example:
+-- a closed night from bytes. Sharp: two that the premises keep out. Sight: what the facts behind the theorems look at.
 pub mod Promise
 pub mod Ends
 pub mod Terms

@@ -5,7 +5,7 @@ use lib.ListN.{getD}
 use Rattle.header.specs.declared.Kind.{Kind}
 use Rattle.header.specs.Header.{kindOf}
 use Rattle.message.specs.Request.{Reading}
-use Rattle.message.specs.Walk.{read, asked}
+use Rattle.message.specs.Walk.{read, requestOf}
 use Rattle.answer.specs.Answer.{Answered}
 use Rattle.carrying.specs.Answers.{answerTo}
 use Rattle.initiator.specs.declared.outcome.Ending.{Ending}
@@ -25,7 +25,8 @@ unfoldable pub each : {A : Type 0} → ℕ → (ℕ → A) → List A
 each zero f = []
 each (suc n) f = f 0 ∷ each n (λ k. f (suc k))
 
--- What `ended` and `read_data` tell of command k, p being what the answer is to the message, and of as many as `answered` counts.
+-- What `ended` and `read_data` tell of command k, p being what the answer is to the message, and of as many as
+-- `answered` counts.
 abbrev pub toldAt : List ℕ → Reading (List Answered) → ℕ → Result
 toldAt message p k = record { ending = endingIn k p; words = dataIn (kindOf (getD message 0 0)) k p }
 
@@ -40,6 +41,7 @@ unfoldable pub resultsIn : Kind → List Answered → Outcome
 resultsIn kind [] = []
 resultsIn kind (a ∷ more) = resultOf kind a ∷ resultsIn kind more
 
--- The outcome of carrying out a message over this memory. Word 1 of the advertisement is in no read's data: it may be any, as 0.
+-- The outcome of carrying out a message over this memory. Word 1 of the advertisement is in no read's data: it may be
+-- any, as 0.
 unfoldable pub outcomeOver : List ℕ → List ℕ → Outcome
-outcomeOver memory message = resultsIn (kindOf (asked message .byte0)) (answerTo (asked message) 0 memory)
+outcomeOver memory message = resultsIn (kindOf (requestOf message .byte0)) (answerTo (requestOf message) 0 memory)

@@ -1,5 +1,5 @@
--- The two ages are sharp: with either one more, a night that is then allowed breaks the promise. proofs/Sharp.antt computes both.
--- Assumes nothing.
+-- The two ages are sharp: with either one more, a night that is then allowed breaks the promise. proofs/Sharp.antt
+-- computes both. Assumes nothing.
 use Prim.Native.Nat.{ℕ, zero, suc, _+_, _%_}
 use mathlib.Core.List.{List, [], _∷_, _++_}
 use Rattle.word.specs.Words.{bytesOf}
@@ -35,7 +35,8 @@ lateAnswer = plainly 16 0 ++ offer (numbered 16) ∷ back 0 ∷ []
 
 -- The night is allowed with these ages, and memory after it is not what the first k messages make of it.
 abbrev pub Breaks : Ages → List (Event ends) → Type 0
-Breaks A es = AllowedRun ends terms 1 A controller loader es × (FirstMessages (controller .memory) (morning controller loader es) → ⊥)
+Breaks A es = AllowedRun ends terms 1 A controller loader es
+    × (FirstMessages (controller .memory) (morning controller loader es) → ⊥)
 
 abbrev pub Sharp : Type 0
 Sharp = Breaks laterRequests lateRequest × Breaks laterAnswers lateAnswer

@@ -8,12 +8,13 @@ use lib.ListN.{getD, take}
 use Rattle.word.specs.Words.{bytesOf, Bytes}
 use Rattle.header.specs.Header.{tagOf, kindOf, discoveryOf}
 use Rattle.message.specs.Request.{Request, Means, Fits}
-use Rattle.message.specs.Walk.{read, asked}
+use Rattle.message.specs.Walk.{read, requestOf}
 use Rattle.answer.specs.Answer.{Answered, encodeAnswer, FitsAnswer}
 use Rattle.tags.specs.Record.{isFresh}
+use Rattle.completer.specs.Controller.{Controller}
 use Rattle.once.specs.Tags.{Sight}
 use Rattle.exchange.specs.Outcomes.{Outcome, resultsIn}
-use Rattle.exchange.specs.Ends.{Controller, Loader, ends}
+use Rattle.exchange.specs.Ends.{Loader, ends}
 use Rattle.exchange.specs.Terms.{terms, Sound}
 
 -- a well-formed message, no discovery
@@ -39,8 +40,8 @@ pub record Encodes (r : Request) (items : List Answered) (answer : List ℕ) : T
 -- an answer to the message, that says this outcome
 pub record Answers (message : List ℕ) (o : Outcome) (answer : List ℕ) : Type 0 where
   pub items : List Answered
-  pub encodes : Encodes (asked message) items answer
-  pub says : o ≡ resultsIn (kindOf (asked message .byte0)) items
+  pub encodes : Encodes (requestOf message) items answer
+  pub says : o ≡ resultsIn (kindOf (requestOf message .byte0)) items
 
 -- an answer to a discovery
 pub record Strange (answer : List ℕ) : Type 0 where

@@ -8,14 +8,15 @@ use Rattle.word.specs.Words.{Bytes, Words}
 use Rattle.header.specs.declared.Kind.the-variants.{Write}
 use Rattle.header.specs.Limits.{limit, limitBytes}
 use Rattle.header.specs.Header.{kindOf, discoveryOf}
-use Rattle.message.specs.Request.{Request, Reading, Wrong, Means}
-use Rattle.message.specs.Walk.{read, asked}
+use Rattle.message.specs.Request.{Request, Reading, Refused, Means}
+use Rattle.message.specs.Walk.{read, requestOf}
 use Rattle.memory.specs.Moves.{memoryAfter}
 use Rattle.tags.specs.Record.{mostMemory, recordOk}
-use Rattle.initiator.specs.Sender.{asksAs}
+use Rattle.completer.specs.Controller.{Controller}
+use Rattle.initiator.specs.Asking.{asksAs}
 use Rattle.once.specs.Promise.{Terms}
 use Rattle.exchange.specs.Outcomes.{outcomeOver}
-use Rattle.exchange.specs.Ends.{Controller, Loader, ends}
+use Rattle.exchange.specs.Ends.{Loader, ends}
 
 -- "well-formed messages, no discoveries, each tagged as offering asks": bytes that 31 lets by
 pub record Offers (s : Loader) (message : List ℕ) : Type 0 where
@@ -24,7 +25,7 @@ pub record Offers (s : Loader) (message : List ℕ) : Type 0 where
 
 -- "discoveries without writes", well-formed or refused: what 2 to 10 refuse is nobody's message
 abbrev pub findsOnly : Reading Request → Type 0
-findsOnly (Wrong n) = Unit {0}
+findsOnly (Refused n) = Unit {0}
 findsOnly (Means r) = (discoveryOf (r .byte0) ≡ true) × (kindOf (r .byte0) ≡ Write → ⊥)
 
 pub record Finds (datagram : List ℕ) : Type 0 where
@@ -40,15 +41,15 @@ terms =
     record {
       Memory = List ℕ;
       memory = λ c. c .memory;
-      carry = λ memory message. memoryAfter (asked message) memory;
+      carry = λ memory message. memoryAfter (requestOf message) memory;
       outcome = outcomeOver;
       Fits = Offers;
       Quiet = Finds;
       Lendable = Lendable;
     }
 
--- An allowed controller: "Memory is a lent run of 1 to 16,384 32-bit words", "a stored answer of at least" the limit, and an allowed
--- record.
+-- An allowed controller: "Memory is a lent run of 1 to 16,384 32-bit words", "a stored answer of at least" the limit,
+-- and an allowed record.
 pub record Sound (c : Controller) : Type 0 where
   pub words : Words (c .memory)
   pub some : 1 ≤ length (c .memory)

@@ -1,5 +1,5 @@
--- Laws of the crate `header` that belong to no one function; the crates above cite them.
-pub mod Headers
-pub mod Lengths
-pub mod Refusals
+-- The laws of the crate `header`: its promises, and what the crates above cite.
+pub mod Header
+pub mod Limits
+pub mod Refusal
 pub mod Worked

@@ -5,6 +5,7 @@ use lib.Dec.{eqb}
 use Rattle.header.specs.declared.Kind.{Kind}
 use Rattle.header.specs.declared.Kind.the-variants.{Nop, Write, Read, Response}
 use Rattle.header.specs.declared.Head.{Head}
+use Rattle.header.specs.Limits.{tagCount}
 
 -- "bits 3:0 tag"
 abbrev pub tagOf : ℕ → ℕ
@@ -12,7 +13,7 @@ tagOf h = h % 16
 
 -- "The next tag, modulo 16"
 abbrev pub nextTag : ℕ → ℕ
-nextTag tag = (tag + 1) % 16
+nextTag tag = (tag + 1) % tagCount
 
 -- "0 NOP, 1 write, 2 read, 3 response"
 abbrev pub numberOf : Kind → ℕ
@@ -47,11 +48,11 @@ byte0Of h = h % 256
 abbrev pub byte1Of : ℕ → ℕ
 byte1Of h = h / 256 % 256
 
-abbrev pub firstOf : ℕ → ℕ
-firstOf byte1 = byte1 % 16
+abbrev pub firstField : ℕ → ℕ
+firstField byte1 = byte1 % 16
 
-abbrev pub finalOf : ℕ → ℕ
-finalOf byte1 = byte1 / 16
+abbrev pub lastField : ℕ → ℕ
+lastField byte1 = byte1 / 16
 
 -- "bits 27:16: count of data words, 12 bits"
 abbrev pub countOf : ℕ → ℕ
@@ -76,8 +77,8 @@ byte0From tag kind wide discovery = tag + 16 * numberOf kind + 64 * bit wide + 1
 unfoldable pub headerFrom : ℕ → ℕ → ℕ → Bool → ℕ
 headerFrom byte0 byte1 count last = byte0 + 256 * byte1 + 65536 * count + 2147483648 * bit last
 
--- "A write carries address and count words; a read carries its address only; a NOP carries count words and no address"; a response
--- carries count words and no address
+-- "A write carries address and count words; a read carries its address only; a NOP carries count words and no address";
+-- a response carries count words and no address
 abbrev pub addressBy : Kind → Bool → ℕ
 addressBy Nop wide = 0
 addressBy Write wide = 1 + bit wide
@@ -102,8 +103,8 @@ bodyWords byte0 count = addressWords byte0 + dataWords (kindOf byte0) count
 unfoldable pub sizeOf : ℕ → ℕ
 sizeOf h = 1 + bodyWords h (countOf h)
 
--- "OK read: count and data as asked. OK write: count 0. OK NOP: the first count words of the advertisement": the data words of an
--- OK answer
+-- "OK read: count and data as asked. OK write: count 0. OK NOP: the first count words of the advertisement": the data
+-- words of an OK answer
 abbrev pub replyWords : Kind → ℕ → ℕ
 replyWords Nop count = count
 replyWords Write count = 0
@@ -114,6 +115,6 @@ replyWords Response count = 0
 unfoldable pub headOf : ℕ → ℕ → Head
 headOf byte0 h = record { byte1 = byte1Of h; count = countOf h; body = bodyWords byte0 (countOf h); last = lastOf h }
 
--- "LAST stands on the final header only": nothing follows the body of a LAST command
+-- "LAST stands on the last header only": nothing follows the body of a LAST command
 abbrev pub endsOk : Bool → ℕ → ℕ → Bool
 endsOk last body left = cond last (eqb left body) true

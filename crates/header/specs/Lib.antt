@@ -1,5 +1,5 @@
--- What the contracts of the crate `header` cite. The crate's root goes by Header. Examples has no module: it holds figures that the
--- checker computes.
+-- What the contracts of the crate `header` cite. The crate's root goes by Header. Examples has no module: it holds
+-- figures that the checker computes.
 pub mod Limits
 pub mod Header
 pub mod Refusal

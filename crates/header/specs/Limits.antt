@@ -1,4 +1,5 @@
--- The one limit that everything else follows from, and the lengths that a datagram may have. Assumes nothing.
+-- The one limit that everything else follows from, the lengths that a datagram may have, and the number of tags.
+-- Assumes nothing.
 use Prim.Native.Nat.{ℕ, _*_, _%_}
 use mathlib.Core.Bool.{Bool, false, cond}
 use lib.Dec.{leb, eqb}
@@ -9,6 +10,10 @@ limit = 2243
 
 abbrev pub limitBytes : ℕ
 limitBytes = 4 * limit
+
+-- tags go from 0 to 15, "modulo 16"
+abbrev pub tagCount : ℕ
+tagCount = 16
 
 -- not "0 bytes, not a multiple of 4, or over" the limit in bytes
 unfoldable pub lengthOk : ℕ → Bool

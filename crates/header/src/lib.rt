@@ -1,10 +1,11 @@
-// The header word: every field read and written, how long a command is, and the next tag. Beside it the limits that every message and
-// every answer keeps, and what a refusal is.
+// The header word: every field read and written, how long a command is, and the next tag. Beside it the limits that
+// every message and every answer keeps, and what a refusal is.
 //
 // The contracts cite specs/: one short definition for each sentence of document 01, in the file named after the module.
 ghost use mathlib.Core.Path.{_≡_};
 ghost use Prim.Native.Nat.{_<_, _≤_};
-ghost use Rattle.header.specs.Header.{tagOf, numberOf, kindNo, kindOf, wideOf, discoveryOf, byte0Of, byte1Of, firstOf, finalOf, countOf, reservedOf, lastOf, bit, byte0From, headerFrom, addressBy, addressWords, dataWords, replyWords, bodyWords, sizeOf, headOf, endsOk, nextTag};
+ghost use Rattle.header.specs.Limits.{tagCount};
+ghost use Rattle.header.specs.Header.{tagOf, numberOf, kindNo, kindOf, wideOf, discoveryOf, byte0Of, byte1Of, firstField, lastField, countOf, reservedOf, lastOf, bit, byte0From, headerFrom, addressBy, addressWords, dataWords, replyWords, bodyWords, sizeOf, headOf, endsOk, nextTag};
 
 pub mod limits;
 pub mod refusal;
@@ -26,17 +27,19 @@ pub struct Head {
 }
 
 pub fn tag(h: u32) -> u32
-    ensures { λ r. ⌜ (r ≡ tagOf h) × (r < 16) ⌝ }
+    ensures { λ r. ⌜ r ≡ tagOf h ⌝ }
+    ensures below { λ r. ⌜ r < 16 ⌝ }
 {
     h % 16
 }
 
 // The tag after this one, modulo 16.
 pub fn next_tag(tag: u32) -> u32
-    requires { ⌜ tag < 16 ⌝ }
-    ensures { λ r. ⌜ (r ≡ nextTag tag) × (r < 16) ⌝ }
+    requires { ⌜ tag < tagCount ⌝ }
+    ensures { λ r. ⌜ r ≡ nextTag tag ⌝ }
+    ensures below { λ r. ⌜ r < tagCount ⌝ }
 {
-    (tag + 1) % 16
+    (tag + 1) % limits::TAGS
 }
 
 // The kind that a number of two bits names.
@@ -59,7 +62,8 @@ pub fn kind_of(h: u32) -> Kind
 
 // The number of a kind.
 pub fn number(kind: Kind) -> u32
-    ensures { λ r. ⌜ (r ≡ numberOf kind) × (r < 4) ⌝ }
+    ensures { λ r. ⌜ r ≡ numberOf kind ⌝ }
+    ensures below { λ r. ⌜ r < 4 ⌝ }
 {
     match kind {
         Kind::Nop => 0,
@@ -83,35 +87,39 @@ pub fn discovery(h: u32) -> bool
 }
 
 pub fn byte0(h: u32) -> u32
-    ensures { λ r. ⌜ (r ≡ byte0Of h) × (r < 256) ⌝ }
+    ensures { λ r. ⌜ r ≡ byte0Of h ⌝ }
+    ensures below { λ r. ⌜ r < 256 ⌝ }
 {
     h % 256
 }
 
 // A request's byte enables, an answer's status.
 pub fn byte1(h: u32) -> u32
-    ensures { λ r. ⌜ (r ≡ byte1Of h) × (r < 256) ⌝ }
+    ensures { λ r. ⌜ r ≡ byte1Of h ⌝ }
+    ensures below { λ r. ⌜ r < 256 ⌝ }
 {
     h / 256 % 256
 }
 
 // The enables of a write's first word.
-pub fn first(byte1: u32) -> u32
-    ensures { λ r. ⌜ (r ≡ firstOf byte1) × (r < 16) ⌝ }
+pub fn first_field(byte1: u32) -> u32
+    ensures { λ r. ⌜ r ≡ firstField byte1 ⌝ }
+    ensures below { λ r. ⌜ r < 16 ⌝ }
 {
     byte1 % 16
 }
 
 // The enables of a write's last word.
-pub fn final_of(byte1: u32) -> u32
-    ensures { λ r. ⌜ r ≡ finalOf byte1 ⌝ }
+pub fn last_field(byte1: u32) -> u32
+    ensures { λ r. ⌜ r ≡ lastField byte1 ⌝ }
 {
     byte1 / 16
 }
 
 // How many data words the command is about.
 pub fn count(h: u32) -> usize
-    ensures { λ r. ⌜ (r ≡ countOf h) × (r < 4096) ⌝ }
+    ensures { λ r. ⌜ r ≡ countOf h ⌝ }
+    ensures below { λ r. ⌜ r < 4096 ⌝ }
 {
     (h / 65536 % 4096) as usize
 }
@@ -130,7 +138,8 @@ pub fn last(h: u32) -> bool
 
 // 1 for a bit that is set.
 fn bit_of(set: bool) -> u32
-    ensures { λ r. ⌜ (r ≡ bit set) × (r < 2) ⌝ }
+    ensures { λ r. ⌜ r ≡ bit set ⌝ }
+    ensures below { λ r. ⌜ r < 2 ⌝ }
 {
     if set { 1 } else { 0 }
 }
@@ -138,14 +147,17 @@ fn bit_of(set: bool) -> u32
 // Byte 0 from its fields.
 pub fn byte0_from(tag: u32, kind: Kind, wide: bool, discovery: bool) -> u32
     requires { ⌜ tag < 16 ⌝ }
-    ensures { λ r. ⌜ (r ≡ byte0From tag kind wide discovery) × (r < 256) ⌝ }
+    ensures { λ r. ⌜ r ≡ byte0From tag kind wide discovery ⌝ }
+    ensures below { λ r. ⌜ r < 256 ⌝ }
 {
     tag + 16 * number(kind) + 64 * bit_of(wide) + 128 * bit_of(discovery)
 }
 
 // A header from its fields; the reserved bits are 0.
 pub fn header_from(byte0: u32, byte1: u32, count: usize, last: bool) -> u32
-    requires { ⌜ (byte0 < 256) × (byte1 < 256) × (count < 4096) ⌝ }
+    requires { ⌜ (byte0 < 256)
+        × (byte1 < 256)
+        × (count < 4096) ⌝ }
     ensures { λ r. ⌜ r ≡ headerFrom byte0 byte1 count last ⌝ }
 {
     byte0 + 256 * byte1 + 65536 * count as u32 + 2147483648 * bit_of(last)
@@ -153,7 +165,8 @@ pub fn header_from(byte0: u32, byte1: u32, count: usize, last: bool) -> u32
 
 // The words of an address.
 fn address_by(kind: Kind, wide: bool) -> usize
-    ensures { λ r. ⌜ (r ≡ addressBy kind wide) × (r < 3) ⌝ }
+    ensures { λ r. ⌜ r ≡ addressBy kind wide ⌝ }
+    ensures below { λ r. ⌜ r < 3 ⌝ }
 {
     match kind {
         Kind::Nop => 0,
@@ -165,14 +178,16 @@ fn address_by(kind: Kind, wide: bool) -> usize
 
 // The words of a command's address in a message of this byte 0.
 pub fn address_words(byte0: u32) -> usize
-    ensures { λ r. ⌜ (r ≡ addressWords byte0) × (r < 3) ⌝ }
+    ensures { λ r. ⌜ r ≡ addressWords byte0 ⌝ }
+    ensures below { λ r. ⌜ r < 3 ⌝ }
 {
     address_by(kind_of(byte0), wide(byte0))
 }
 
 // The words of a command's data.
 pub fn data_words(kind: Kind, count: usize) -> usize
-    ensures { λ r. ⌜ (r ≡ dataWords kind count) × (r ≤ count) ⌝ }
+    ensures { λ r. ⌜ r ≡ dataWords kind count ⌝ }
+    ensures below { λ r. ⌜ r ≤ count ⌝ }
 {
     match kind {
         Kind::Nop => count,
@@ -184,7 +199,8 @@ pub fn data_words(kind: Kind, count: usize) -> usize
 
 // The data words of the OK answer to a command.
 pub fn reply_words(kind: Kind, count: usize) -> usize
-    ensures { λ r. ⌜ (r ≡ replyWords kind count) × (r ≤ count) ⌝ }
+    ensures { λ r. ⌜ r ≡ replyWords kind count ⌝ }
+    ensures below { λ r. ⌜ r ≤ count ⌝ }
 {
     match kind {
         Kind::Nop => count,
@@ -196,7 +212,8 @@ pub fn reply_words(kind: Kind, count: usize) -> usize
 
 // The words of the body of the header h in a message of this byte 0: its address, then its data.
 pub fn body_words(byte0: u32, h: u32) -> usize
-    ensures { λ r. ⌜ (r ≡ bodyWords byte0 (countOf h)) × (r < 4098) ⌝ }
+    ensures { λ r. ⌜ r ≡ bodyWords byte0 (countOf h) ⌝ }
+    ensures below { λ r. ⌜ r < 4098 ⌝ }
 {
     address_words(byte0) + data_words(kind_of(byte0), count(h))
 }

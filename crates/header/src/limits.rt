@@ -1,4 +1,4 @@
-// The limit of every message and every answer, and whether a datagram keeps it.
+// The limit of every message and every answer, whether a datagram keeps it, and the number of tags.
 ghost use mathlib.Core.Path.{_≡_};
 ghost use Rattle.header.specs.Limits.{lengthOk};
 
@@ -6,6 +6,9 @@ ghost use Rattle.header.specs.Limits.{lengthOk};
 pub const LIMIT: usize = 2243;
 
 pub const LIMIT_BYTES: usize = 4 * LIMIT;
+
+// Tags go from 0 to 15.
+pub const TAGS: u32 = 16;
 
 // Whether a datagram may have this many bytes.
 pub fn length_ok(bytes: usize) -> bool

@@ -1,5 +1,8 @@
-// A refusal: its number in document 01's tables, and the index, from 0, of the header word that was looked at. Refusals 3 to 9, 31 and
-// 33 to 35 have such a word; all others have index 0.
+// A refusal: its number in document 01's tables, and the index, from 0, of the header word that was looked at. Refusals
+// 3 to 9, 31 and 33 to 35 have such a word; all others have index 0.
+ghost use mathlib.Core.Path.{_≡_};
+ghost use Rattle.header.specs.Refusal.{refusal};
+
 #[repr(C)]
 pub struct Refusal {
     pub number: u32,
@@ -7,6 +10,9 @@ pub struct Refusal {
 }
 
 impl Refusal {
+    // No refusal.
+    pub const NONE: u32 = 0;
+
     // Turned away by the controller.
 
     // Memory, stored answer or output has a forbidden length, or the record is not one.
@@ -67,4 +73,11 @@ impl Refusal {
     pub const NEXT_TAG: u32 = 37;
     // The discovery's status is not OK, or its word 1 is no stored tag.
     pub const DISCOVERY: u32 = 38;
+
+    // The refusal of this number, with index 0.
+    pub fn of(number: u32) -> Refusal
+        ensures { λ r. ⌜ r ≡ refusal number ⌝ }
+    {
+        Refusal { number, at: 0 }
+    }
 }

@@ -1,9 +1,6 @@
--- Laws of the crate `initiator` that belong to no one function; the crates above cite them.
+-- The laws of the crate `initiator`: its promises, and what the crates above cite.
+pub mod Asked
 pub mod Checked
 pub mod Outcomes
-pub mod Parts
-pub mod Promised
-pub mod Sending
+pub mod Promises
 pub mod Starting
-pub mod Telling
-pub mod Told

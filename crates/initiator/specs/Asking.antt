@@ -1,10 +1,41 @@
--- 31: a request that may not be asked. Assumes nothing.
+-- 31: whether a request may be asked. Assumes nothing.
+use Prim.Native.Nat.{ℕ}
+use mathlib.Core.Bool.{Bool, true, false, cond}
+use lib.Dec.{eqb}
 use Rattle.header.specs.declared.refusal.Refusal.{Refusal}
+use Rattle.header.specs.Header.{tagOf, discoveryOf}
 use Rattle.header.specs.Refusal.{refusedAt, refusal}
-use Rattle.message.specs.declared.walk.Walked.{Walked}
-use Rattle.message.specs.declared.walk.Walked.the-variants.{WellFormed, Malformed}
+use Rattle.message.specs.Request.{Request, Reading, Refused, Means}
+use Rattle.initiator.specs.declared.asking.Asking.{Asking}
+use Rattle.initiator.specs.declared.asking.Asking.the-variants.{Asks, Refused as RefusedAsking}
 
--- 31 for a request that the walk refused
-abbrev pub malformedBy : Walked → Refusal
-malformedBy (WellFormed n) = refusal 31
-malformedBy (Malformed r) = refusedAt 31 (r .at)
+-- "31: request would be refused 2 to 10, has the discovery bit", and "gives the index in the request": that of the
+-- refusal which the request would get; 0 for the discovery bit
+unfoldable pub plainly : Reading Request → Reading Request
+plainly (Refused r) = Refused (refusedAt 31 (r .at))
+plainly (Means q) = cond (discoveryOf (q .byte0)) (Refused (refusal 31)) (Means q)
+
+-- "or its tag is not the next tag", with index 0
+abbrev pub underTag : ℕ → Reading Request → Reading Request
+underTag tag (Refused r) = Refused r
+underTag tag (Means q) = cond (eqb (tagOf (q .byte0)) tag) (Means q) (Refused (refusal 31))
+
+unfoldable pub askedAs : ℕ → Reading Request → Reading Request
+askedAs tag p = underTag tag (plainly p)
+
+-- whether 31 lets it by
+abbrev pub letsBy : Reading Request → Bool
+letsBy (Refused r) = false
+letsBy (Means q) = true
+
+unfoldable pub asksAs : ℕ → Reading Request → Bool
+asksAs tag p = letsBy (askedAs tag p)
+
+-- what the functions tell of it: byte 0, or the refusal; and that refusal, number 0 for none
+abbrev pub askingOf : Reading Request → Asking
+askingOf (Refused r) = RefusedAsking r
+askingOf (Means q) = Asks (q .byte0)
+
+abbrev pub refusalOf : Asking → Refusal
+refusalOf (Asks byte0) = refusal 0
+refusalOf (RefusedAsking r) = r

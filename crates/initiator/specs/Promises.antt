@@ -1,4 +1,5 @@
--- What is promised of the sender, in other words than its definitions. The proofs are in proofs/Laws/Promised.antt. Assumes nothing.
+-- What is promised of the sender, in other words than its definitions. The proofs are in proofs/Laws/Promises.antt.
+-- Assumes nothing.
 use Prim.Native.Nat.{ℕ, _<_}
 use mathlib.Core.Path.{_≡_}
 use mathlib.Core.Bool.{true, false}
@@ -7,7 +8,7 @@ use lib.ListN.{getD}
 use Rattle.header.specs.declared.refusal.Refusal.{Refusal}
 use Rattle.header.specs.Header.{tagOf, discoveryOf, nextTag}
 use Rattle.header.specs.Refusal.{refusedAt}
-use Rattle.message.specs.Request.{Request, Wrong, Means, Fits}
+use Rattle.message.specs.Request.{Request, Refused, Means, Fits}
 use Rattle.message.specs.Walk.{read}
 use Rattle.message.specs.Discovery.{discoveryRequest}
 use Rattle.answer.specs.Answer.{Answered, judge, encodeAnswer, FitsAnswer}
@@ -42,24 +43,30 @@ AcceptedIs s message answer = takeOf s message answer .refusal .number ≡ 0 →
 
 -- acceptance depends on request and answer alone: whichever sender the message waits at
 abbrev pub Alone : Sender → Sender → List ℕ → List ℕ → Type 0
-Alone s t message answer = sendFault s message .number ≡ 0 → sendFault t message .number ≡ 0 → takeOf s message answer .refusal ≡ takeOf t message answer .refusal
+Alone s t message answer = sendFault s message .number ≡ 0 → sendFault t message .number ≡ 0
+    → takeOf s message answer .refusal ≡ takeOf t message answer .refusal
 
--- "31 .. gives the index in the request": that of the refusal which any controller would give it, whichever call says 31
+-- "31 .. gives the index in the request": that of the refusal which any controller would give it, whichever call says
+-- 31
 pub record SaysWhere (message : List ℕ) (at : ℕ) : Type 0 where
   pub offer : (s : Sender) → s .next < 16 → s .waits ≡ false → offerOf s message .refusal ≡ refusedAt 31 at
   pub send : (s : Sender) → s .next < 16 → s .waits ≡ true → sendFault s message ≡ refusedAt 31 at
-  pub take : (s : Sender) (answer : List ℕ) → s .next < 16 → s .waits ≡ true → takeOf s message answer .refusal ≡ refusedAt 31 at
+  pub take : (s : Sender) (answer : List ℕ) → s .next < 16 → s .waits ≡ true
+      → takeOf s message answer .refusal ≡ refusedAt 31 at
   pub told : (answer : List ℕ) (k : ℕ) → outcomeOf message answer k .refusal ≡ refusedAt 31 at
 
 abbrev pub Where : List ℕ → Type 0
-Where message = (n at : ℕ) → read message ≡ Wrong (refusedAt n at) → SaysWhere message at
+Where message = (n at : ℕ) → read message ≡ Refused (refusedAt n at) → SaysWhere message at
 
 -- "All others, also 31 for .. the tag, give 0": of a well-formed message no sender's call says where
 abbrev pub OthersGiveZero : List ℕ → Type 0
-OthersGiveZero message = (r : Request) → read message ≡ Means r → (s : Sender) → (offerOf s message .refusal .at ≡ 0) × (sendFault s message .at ≡ 0)
+OthersGiveZero message = (r : Request) → read message ≡ Means r → (s : Sender)
+    → (offerOf s message .refusal .at ≡ 0) × (sendFault s message .at ≡ 0)
 
 -- "33 to 35" likewise: what an answer is judged to be is what each call says of it
 pub record HandsOn (answer : List ℕ) (r : Refusal) : Type 0 where
-  pub take : (s : Sender) (message : List ℕ) → sendFault s message .number ≡ 0 → judgedBy (read message) answer ≡ Wrong r → takeOf s message answer .refusal ≡ r
-  pub told : (message : List ℕ) (k : ℕ) → judgedBy (read message) answer ≡ Wrong r → outcomeOf message answer k .refusal ≡ r
-  pub start : judge discoveryRequest answer ≡ Wrong r → startOf answer .refusal ≡ r
+  pub take : (s : Sender) (message : List ℕ) → sendFault s message .number ≡ 0
+      → judgedBy (read message) answer ≡ Refused r → takeOf s message answer .refusal ≡ r
+  pub told : (message : List ℕ) (k : ℕ) → judgedBy (read message) answer ≡ Refused r
+      → outcomeOf message answer k .refusal ≡ r
+  pub start : judge discoveryRequest answer ≡ Refused r → startOf answer .refusal ≡ r

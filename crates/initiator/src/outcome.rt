@@ -1,5 +1,6 @@
-// What an answer tells of its request: whether it is refused, how many commands were answered, how each ended, and where the data
-// of a read stand in the answer's own bytes. No sender record is looked at, so it serves after the answer was accepted too.
+// What an answer tells of its request: whether it is refused, how many commands were answered, how each ended, and
+// where the data of a read stand in the answer's own bytes. No sender record is looked at, so it serves after the
+// answer was accepted too.
 ghost use mathlib.Core.Path.{_≡_};
 ghost use Prim.Native.Nat.{_+_, _*_, _<_, _≤_};
 ghost use lib.ListN.{length, getD};
@@ -7,16 +8,15 @@ ghost use Rattle.word.specs.Words.{wordsOf};
 ghost use Rattle.header.specs.Limits.{limit, limitBytes};
 ghost use Rattle.header.specs.Header.{kindOf, countOf, bodyWords};
 ghost use Rattle.message.specs.Walk.{read};
-ghost use Rattle.initiator.specs.Outcome.{refusedWith, spanOf, partOf, withItem, lookBeside, Ready, toldOf, answersTo, judgedBy, countIn, endingIn, partIn, outcomeOf, ReadData};
+ghost use Rattle.initiator.specs.Outcome.{spanOf, partOf, toldOf, judgedBy, countIn, endingIn, partIn, outcomeOf, ReadData, judgedIn};
+ghost use Rattle.initiator.specs.Telling.{refusedWith, withItem, lookBeside, Ready, answersTo};
 use crate::asking;
+use crate::asking::Asking;
 use answer::Look;
 use answer::Seen;
 use answer::Status;
 use header::Kind;
-use header::limits;
 use header::refusal::Refusal;
-use message::walk;
-use message::walk::Walked;
 
 // How a command ended: it was not answered, or with a status.
 pub enum Ending {
@@ -24,8 +24,8 @@ pub enum Ending {
     Ended(Status),
 }
 
-// What is told of an answer and of its command number k: the refusal (number 0: none), how many commands were answered, how command
-// k ended, and the bytes of the answer in which its read data stand.
+// What is told of an answer and of its command number k: the refusal (number 0: none), how many commands were answered,
+// how command k ended, and the bytes of the answer in which its read data stand.
 pub struct Outcome {
     pub refusal: Refusal,
     pub count: usize,
@@ -55,7 +55,8 @@ pub struct Span {
 
 // The bytes of `count` data words behind the header at word `at`.
 fn data_span(at: usize, count: usize) -> Span
-    requires { ⌜ (at ≤ limit) × (count < 4096) ⌝ }
+    requires { ⌜ at ≤ limit ⌝ }
+    requires { ⌜ count < 4096 ⌝ }
     ensures { λ r. ⌜ r ≡ spanOf at count ⌝ }
 {
     Span {
@@ -66,7 +67,8 @@ fn data_span(at: usize, count: usize) -> Span
 
 // Where the data of an answered command stand, whose header stands at word `at`: empty for anything but an OK read.
 fn part_of(kind: Kind, status: Status, at: usize, count: usize) -> Span
-    requires { ⌜ (at ≤ limit) × (count < 4096) ⌝ }
+    requires { ⌜ at ≤ limit ⌝ }
+    requires { ⌜ count < 4096 ⌝ }
     ensures { λ r. ⌜ r ≡ partOf kind status at count ⌝ }
 {
     match kind {
@@ -83,7 +85,9 @@ fn part_of(kind: Kind, status: Status, at: usize, count: usize) -> Span
 
 // What was told so far, with one answer more: that of command k gives its ending and its part.
 fn with_item(told: Outcome, k: usize, byte0: u32, at: usize, seen: Seen) -> Outcome
-    requires { ⌜ (told .count ≤ limit) × (at ≤ limit) × (seen .count < 4096) ⌝ }
+    requires { ⌜ (told .count ≤ limit)
+        × (at ≤ limit)
+        × (seen .count < 4096) ⌝ }
     ensures { λ r. ⌜ r ≡ withItem told k (kindOf byte0) at (seen .status) (seen .count) ⌝ }
 {
     let refusal = told.refusal;
@@ -111,7 +115,8 @@ fn with_item(told: Outcome, k: usize, byte0: u32, at: usize, seen: Seen) -> Outc
 
 // What stands at word `back` of the answer, beside the command whose header stands at word `at` of the request.
 fn look_beside(request: &[u8], answer: &[u8], byte0: u32, at: usize, back: usize) -> Look
-    requires { ⌜ (4 * at + 4 ≤ length (now request)) × (back ≤ limit) ⌝ }
+    requires { ⌜ 4 * at + 4 ≤ length (now request) ⌝ }
+    requires { ⌜ back ≤ limit ⌝ }
     ensures { λ r. ⌜ r ≡ lookBeside (wordsOf (now (request .entry))) (wordsOf (now (answer .entry))) byte0 at back ⌝ }
 {
     let h = word::word_at(request, at);
@@ -121,17 +126,20 @@ fn look_beside(request: &[u8], answer: &[u8], byte0: u32, at: usize, back: usize
 // The words of the body of the command whose header stands at word `at`.
 fn body_at(request: &[u8], byte0: u32, at: usize) -> usize
     requires { ⌜ 4 * at + 4 ≤ length (now request) ⌝ }
-    ensures { λ r. ⌜ (r ≡ bodyWords byte0 (countOf (getD (wordsOf (now (request .entry))) at 0))) × (r < 4098) ⌝ }
+    ensures { λ r. ⌜ r ≡ bodyWords byte0 (countOf (getD (wordsOf (now (request .entry))) at 0)) ⌝ }
+    ensures below { λ r. ⌜ r < 4098 ⌝ }
 {
     header::body_words(byte0, word::word_at(request, at))
 }
 
 // The answers to a request's commands, side by side with them.
 fn look_through(request: &[u8], answer: &[u8], byte0: u32, k: usize) -> Outcome
-    requires { ⌜ Ready (now request) byte0 × (length (now answer) ≤ limitBytes) ⌝ }
-    ensures { λ r. ⌜ r ≡ toldOf (kindOf byte0) k (answersTo (read (now (request .entry))) (wordsOf (now (answer .entry)))) ⌝ }
+    requires { ⌜ Ready (now request) byte0 ⌝ }
+    requires { ⌜ length (now answer) ≤ limitBytes ⌝ }
+    ensures { λ r. ⌜ r ≡ toldOf (kindOf byte0) k
+        (answersTo (read (now (request .entry))) (wordsOf (now (answer .entry)))) ⌝ }
 {
-    let mut told = refused(Refusal { number: 0, at: 0 });
+    let mut told = refused(Refusal::of(Refusal::NONE));
     let mut at: usize = 0;
     let mut back: usize = 0;
     loop {
@@ -148,34 +156,28 @@ fn look_through(request: &[u8], answer: &[u8], byte0: u32, k: usize) -> Outcome
     }
 }
 
+// What an answer tells of an accepted request, whose byte 0 is this, and of command k: refused by 32 to 35, or what it
+// holds.
+pub(crate) fn told_by(request: &[u8], answer: &[u8], byte0: u32, k: usize) -> Outcome
+    requires { ⌜ Ready (now request) byte0 ⌝ }
+    ensures { λ r. ⌜ r ≡ toldOf (kindOf byte0) k (judgedIn (read (now (request .entry))) (now (answer .entry))) ⌝ }
+{
+    let refusal = answer::head_refusal(byte0, answer);
+    if refusal.number != 0 {
+        return refused(refusal);
+    }
+    look_through(request, answer, byte0, k)
+}
+
 // What an answer tells of its request and of command k: refused by 31 (its tag clause aside) to 35, or what it holds.
 pub fn told(request: &[u8], answer: &[u8], k: usize) -> Outcome
     ensures { λ r. ⌜ r ≡ outcomeOf (now (request .entry)) (now (answer .entry)) k ⌝ }
 {
-    let walked = walk::walk(request);
-    let Walked::WellFormed(_) = walked else {
-        return refused(asking::malformed(walked));
+    let asking = asking::ask(request);
+    let Asking::Asks(byte0) = asking else {
+        return refused(asking::refusal_of(asking));
     };
-    let byte0 = word::wide(request[0]);
-    if header::discovery(byte0) {
-        return refused(Refusal {
-            number: Refusal::REQUEST,
-            at: 0,
-        });
-    }
-    if !limits::length_ok(answer.len()) {
-        return refused(Refusal {
-            number: Refusal::ANSWER_LENGTH,
-            at: 0,
-        });
-    }
-    if word::wide(answer[0]) != answer::answer_byte(byte0) {
-        return refused(Refusal {
-            number: Refusal::ANSWER_BYTE_0,
-            at: 0,
-        });
-    }
-    look_through(request, answer, byte0, k)
+    told_by(request, answer, byte0, k)
 }
 
 // How many commands were answered; 0 where the answer is refused.
@@ -197,7 +199,8 @@ pub fn ended(request: &[u8], answer: &[u8], k: usize) -> Ending
 
 // Where command k's read data stand in the answer; empty at 0 for anything but an answered OK read.
 pub fn read_span(request: &[u8], answer: &[u8], k: usize) -> Span
-    ensures { λ r. ⌜ r ≡ partIn (kindOf (getD (now (request .entry)) 0 0)) k (judgedBy (read (now (request .entry))) (now (answer .entry))) ⌝ }
+    ensures { λ r. ⌜ r ≡ partIn (kindOf (getD (now (request .entry)) 0 0)) k
+        (judgedBy (read (now (request .entry))) (now (answer .entry))) ⌝ }
     ensures inside { λ r. ⌜ (r .start ≤ r .end) × (r .end ≤ length (now (answer .entry))) ⌝ }
 {
     let told = told(request, answer, k);

@@ -1,18 +1,17 @@
-// The sender: it holds at most one message waiting, which stays lent to it and may be sent any number of times, until an accepted
-// answer ends it. Every call takes any record, any message, any answer, and refuses by number.
+// The sender: it holds at most one message waiting, which stays lent to it and may be sent any number of times, until
+// an accepted answer ends it. Every call takes any record, any message, any answer, and refuses by number.
 ghost use mathlib.Core.Path.{_≡_};
 ghost use Prim.Native.Nat.{_<_};
-ghost use Rattle.message.specs.Walk.{read};
-ghost use Rattle.initiator.specs.Sender.{freshSender, askFault, offerFault, sendFault, offerOf, sendOf, takeOf, spoiled, wordOk, nextAfter, startedAt, startOf};
+ghost use Rattle.initiator.specs.Asking.{askingOf};
+ghost use Rattle.initiator.specs.Sender.{freshSender, offering, sending, offerOf, sendOf, sendFault, takeOf, spoiled, wordOk, nextAfter, startedAt, startOf};
 use crate::asking;
+use crate::asking::Asking;
 use crate::outcome;
 use answer::Look;
 use answer::Status;
 use header::Kind;
 use header::limits;
 use header::refusal::Refusal;
-use message::walk;
-use message::walk::Walked;
 
 // The next tag, and whether a message waits.
 #[repr(C)]
@@ -39,22 +38,15 @@ impl Sender {
         }
     }
 
-    // The sender that the answer to the fixed discovery makes: refused by 32 to 35, then 38, with a sender that 37 stops.
+    // The sender that the answer to the fixed discovery makes: refused by 32 to 35, then 38, with a sender that 37
+    // stops.
     pub fn discovered(answer: &[u8]) -> Moved
         ensures { λ r. ⌜ r ≡ startOf (now (answer .entry)) ⌝ }
     {
         let byte0 = header::byte0_from(0, Kind::Nop, false, true);
-        if !limits::length_ok(answer.len()) {
-            return spoilt(Refusal {
-                number: Refusal::ANSWER_LENGTH,
-                at: 0,
-            });
-        }
-        if word::wide(answer[0]) != answer::answer_byte(byte0) {
-            return spoilt(Refusal {
-                number: Refusal::ANSWER_BYTE_0,
-                at: 0,
-            });
+        let refusal = answer::head_refusal(byte0, answer);
+        if refusal.number != 0 {
+            return spoilt(refusal);
         }
         let look = answer::look_at(byte0, 2, true, answer, 0);
         let Look::Item(seen) = look else {
@@ -63,14 +55,8 @@ impl Sender {
         let status = seen.status;
         match status {
             Status::Ok => started(word::word_at(answer, 2)),
-            Status::Timeout => spoilt(Refusal {
-                number: Refusal::DISCOVERY,
-                at: 0,
-            }),
-            Status::Error => spoilt(Refusal {
-                number: Refusal::DISCOVERY,
-                at: 0,
-            }),
+            Status::Timeout => spoilt(Refusal::of(Refusal::DISCOVERY)),
+            Status::Error => spoilt(Refusal::of(Refusal::DISCOVERY)),
         }
     }
 }
@@ -82,7 +68,7 @@ fn spoilt(refusal: Refusal) -> Moved
     Moved {
         refusal,
         sender: Sender {
-            next: 16,
+            next: limits::TAGS,
             waits: false,
         },
     }
@@ -114,13 +100,10 @@ fn started(w: u32) -> Moved
     ensures { λ r. ⌜ r ≡ startedAt w ⌝ }
 {
     if !word_ok(w) {
-        return spoilt(Refusal {
-            number: Refusal::DISCOVERY,
-            at: 0,
-        });
+        return spoilt(Refusal::of(Refusal::DISCOVERY));
     }
     Moved {
-        refusal: Refusal { number: 0, at: 0 },
+        refusal: Refusal::of(Refusal::NONE),
         sender: Sender {
             next: next_after(w),
             waits: false,
@@ -128,60 +111,32 @@ fn started(w: u32) -> Moved
     }
 }
 
-// The refusal of offering or sending a message under this next tag, or none (number 0): 31 for a malformed one, at its fault, for a
-// discovery, and for another tag.
-fn ask_refusal(next: u32, message: &[u8]) -> Refusal
-    ensures { λ r. ⌜ r ≡ askFault next (read (now (message .entry))) ⌝ }
+// Whether a message may be offered: 37, 36, 31.
+fn offering(sender: Sender, message: &[u8]) -> Asking
+    ensures { λ r. ⌜ r ≡ askingOf (offering sender (now (message .entry))) ⌝ }
 {
-    let walked = walk::walk(message);
-    let Walked::WellFormed(_) = walked else {
-        return asking::malformed(walked);
-    };
-    let byte0 = word::wide(message[0]);
-    if header::discovery(byte0) {
-        return Refusal {
-            number: Refusal::REQUEST,
-            at: 0,
-        };
-    }
-    if header::tag(byte0) != next {
-        return Refusal {
-            number: Refusal::REQUEST,
-            at: 0,
-        };
-    }
-    Refusal { number: 0, at: 0 }
-}
-
-// The refusal of an offer: 37, 36, 31, or none (number 0).
-fn offer_refusal(sender: Sender, message: &[u8]) -> Refusal
-    ensures { λ r. ⌜ r ≡ offerFault sender (now (message .entry)) ⌝ }
-{
-    if 16 <= sender.next {
-        return Refusal {
-            number: Refusal::NEXT_TAG,
-            at: 0,
-        };
+    if limits::TAGS <= sender.next {
+        return Asking::Refused(Refusal::of(Refusal::NEXT_TAG));
     }
     if sender.waits {
-        return Refusal {
-            number: Refusal::ONE_WAITS,
-            at: 0,
-        };
+        return Asking::Refused(Refusal::of(Refusal::ONE_WAITS));
     }
-    ask_refusal(sender.next, message)
+    asking::ask_as(sender.next, message)
 }
 
 // Offers a message: 37, 36, 31. Accepted, it waits; refused, the sender is unchanged.
 pub fn offer(sender: Sender, message: &[u8]) -> Moved
     ensures { λ r. ⌜ r ≡ offerOf sender (now (message .entry)) ⌝ }
 {
-    let refusal = offer_refusal(sender, message);
-    if refusal.number != 0 {
-        return Moved { refusal, sender };
-    }
+    let asking = offering(sender, message);
+    let Asking::Asks(_) = asking else {
+        return Moved {
+            refusal: asking::refusal_of(asking),
+            sender,
+        };
+    };
     Moved {
-        refusal,
+        refusal: Refusal::of(Refusal::NONE),
         sender: Sender {
             next: sender.next,
             waits: true,
@@ -189,46 +144,50 @@ pub fn offer(sender: Sender, message: &[u8]) -> Moved
     }
 }
 
-// The refusal of sending this message: 37, 30, 31, or none (number 0); also of taking an answer, before the answer is looked at.
+// Whether a message may be sent, or an answer to it taken: 37, 30, 31.
+fn sending(sender: Sender, message: &[u8]) -> Asking
+    ensures { λ r. ⌜ r ≡ askingOf (sending sender (now (message .entry))) ⌝ }
+{
+    if limits::TAGS <= sender.next {
+        return Asking::Refused(Refusal::of(Refusal::NEXT_TAG));
+    }
+    if !sender.waits {
+        return Asking::Refused(Refusal::of(Refusal::NONE_WAITS));
+    }
+    asking::ask_as(sender.next, message)
+}
+
+// The refusal of sending this message: 37, 30, 31, or none (number 0).
 pub fn send_refusal(sender: Sender, message: &[u8]) -> Refusal
     ensures { λ r. ⌜ r ≡ sendFault sender (now (message .entry)) ⌝ }
 {
-    if 16 <= sender.next {
-        return Refusal {
-            number: Refusal::NEXT_TAG,
-            at: 0,
-        };
-    }
-    if !sender.waits {
-        return Refusal {
-            number: Refusal::NONE_WAITS,
-            at: 0,
-        };
-    }
-    ask_refusal(sender.next, message)
+    asking::refusal_of(sending(sender, message))
 }
 
 // The bytes to send: the lent message's own, or an empty part where sending it is refused.
 pub fn send<'a>(sender: Sender, message: &'a [u8]) -> &'a [u8]
     ensures { λ r. ⌜ now r ≡ sendOf sender (now (message .entry)) ⌝ }
 {
-    let refusal = send_refusal(sender, message);
-    if refusal.number != 0 {
+    let asking = sending(sender, message);
+    let Asking::Asks(_) = asking else {
         return &message[..0];
-    }
+    };
     message
 }
 
-// Takes an answer to the waiting message: 37, 30, 31, 32 to 35. Accepted, it ends the message, and the next tag is one more, modulo
-// 16; refused, the sender is unchanged.
+// Takes an answer to the waiting message: 37, 30, 31, 32 to 35. Accepted, it ends the message, and the next tag is one
+// more, modulo 16; refused, the sender is unchanged.
 pub fn take(sender: Sender, message: &[u8], answer: &[u8]) -> Moved
     ensures { λ r. ⌜ r ≡ takeOf sender (now (message .entry)) (now (answer .entry)) ⌝ }
 {
-    let refusal = send_refusal(sender, message);
-    if refusal.number != 0 {
-        return Moved { refusal, sender };
-    }
-    let told = outcome::told(message, answer, 0);
+    let asking = sending(sender, message);
+    let Asking::Asks(byte0) = asking else {
+        return Moved {
+            refusal: asking::refusal_of(asking),
+            sender,
+        };
+    };
+    let told = outcome::told_by(message, answer, byte0, 0);
     let refusal = told.refusal;
     if refusal.number != 0 {
         return Moved { refusal, sender };

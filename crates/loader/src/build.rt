@@ -12,14 +12,15 @@ use header::refusal::Refusal;
 use message::walk;
 use message::walk::Walked;
 
-// The refusal, 2 to 10, of a request by any controller, at the header that is refused; number 0 where it is well-formed.
+// The refusal, 2 to 10, of a request by any controller, at the header that is refused; number 0 where it is
+// well-formed.
 #[no_mangle]
 pub extern "C" fn charkhavo_refusal(request: &[u8]) -> Refusal
     ensures { λ r. ⌜ r ≡ refusalIn (read (now (request .entry))) ⌝ }
 {
     match walk::walk(request) {
-        Walked::WellFormed(_) => Refusal { number: 0, at: 0 },
-        Walked::Malformed(refusal) => refusal,
+        Walked::WellFormed(_) => Refusal::of(Refusal::NONE),
+        Walked::Refused(refusal) => refusal,
     }
 }
 
@@ -45,7 +46,8 @@ pub extern "C" fn charkhavo_add(
     asked: Asked,
     payload: &[u32],
 ) -> Built
-    ensures { λ r. ⌜ (r ≡ added (now (output .entry)) building asked (now (payload .entry))) × (now (output .exit) ≡ addedTo (now (output .entry)) building asked (now (payload .entry))) ⌝ }
+    ensures { λ r. ⌜ (r ≡ added (now (output .entry)) building asked (now (payload .entry))) ×
+        (now (output .exit) ≡ addedTo (now (output .entry)) building asked (now (payload .entry))) ⌝ }
 {
     build::add(output, building, asked, payload)
 }
@@ -53,7 +55,8 @@ pub extern "C" fn charkhavo_add(
 // Closes the message; 21, 22. Only the LAST bit of its last header changes.
 #[no_mangle]
 pub extern "C" fn charkhavo_close(output: &mut [u8], building: Building) -> Built
-    ensures { λ r. ⌜ (r ≡ closed (now (output .entry)) building) × (now (output .exit) ≡ closedTo (now (output .entry)) building) ⌝ }
+    ensures { λ r. ⌜ (r ≡ closed (now (output .entry)) building) ×
+        (now (output .exit) ≡ closedTo (now (output .entry)) building) ⌝ }
 {
     build::close(output, building)
 }

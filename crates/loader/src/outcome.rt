@@ -1,6 +1,7 @@
 // What an accepted answer tells: how many commands were answered, how each ended, where the data of a read stand.
 //
-// No sender is looked at, so these serve after the answer was taken too; of an answer that is refused they tell nothing.
+// No sender is looked at, so these serve after the answer was taken too; of an answer that is refused they tell
+// nothing.
 ghost use mathlib.Core.Path.{_≡_};
 ghost use Prim.Native.Nat.{_+_, _≤_};
 ghost use lib.ListN.{length};

@@ -39,7 +39,8 @@ pub extern "C" fn charkhavo_fresh() -> Sender
     Sender::fresh()
 }
 
-// The sender that the answer to the fixed discovery makes; 32 to 35, 38, with a sender that every later call refuses by 37.
+// The sender that the answer to the fixed discovery makes; 32 to 35, 38, with a sender that every later call refuses by
+// 37.
 #[no_mangle]
 pub extern "C" fn charkhavo_discovered(answer: &[u8]) -> Moved
     ensures { λ r. ⌜ r ≡ startOf (now (answer .entry)) ⌝ }

@@ -1,4 +1,4 @@
--- Laws of the crate `memory` that belong to no one function; the crates above cite them.
+-- The laws of the crate `memory`: its promises, and what the crates above cite.
 pub mod LastWrite
 pub mod Moving
-pub mod Promised
+pub mod Promises

@@ -1,5 +1,5 @@
--- Carrying out a message, memory: when a command fails, its moves, and memory after them. The stored tag plays no part here.
--- Assumes nothing.
+-- Carrying out a message, memory: when a command fails, its moves, and memory after them. The stored tag plays no part
+-- here. Assumes nothing.
 use Prim.Native.Nat.{ℕ, zero, suc, _+_, _/_, _%_}
 use mathlib.Core.Bool.{Bool, true, false, cond}
 use mathlib.Core.List.{List, [], _∷_, _++_}
@@ -8,7 +8,7 @@ use lib.Dec.{ltb, eqb}
 use Rattle.word.specs.Enables.{merged}
 use Rattle.header.specs.declared.Kind.{Kind}
 use Rattle.header.specs.declared.Kind.the-variants.{Nop, Write, Read, Response}
-use Rattle.header.specs.Header.{kindOf, firstOf, finalOf}
+use Rattle.header.specs.Header.{kindOf, firstField, lastField}
 use Rattle.message.specs.Request.{Command, Request}
 
 -- "its address is not a multiple of 4 or any word of its range lies past the end" of a memory of `size` words
@@ -34,19 +34,19 @@ fetches at (suc n) = Fetch at ∷ fetches (suc at) n
 
 -- the words behind a write's first: "middle words are written whole", the last one under the last enables
 unfoldable pub storesBehind : ℕ → ℕ → List ℕ → List Move
-storesBehind at final [] = []
-storesBehind at final (w ∷ []) = Store at w final ∷ []
-storesBehind at final (w ∷ v ∷ ws) = Store at w 15 ∷ storesBehind (suc at) final (v ∷ ws)
+storesBehind at last [] = []
+storesBehind at last (w ∷ []) = Store at w last ∷ []
+storesBehind at last (w ∷ v ∷ ws) = Store at w 15 ∷ storesBehind (suc at) last (v ∷ ws)
 
 -- a write's words, the first one under the first enables
 unfoldable pub stores : ℕ → ℕ → ℕ → List ℕ → List Move
-stores at first final [] = []
-stores at first final (w ∷ ws) = Store at w first ∷ storesBehind (suc at) final ws
+stores at first last [] = []
+stores at first last (w ∷ ws) = Store at w first ∷ storesBehind (suc at) last ws
 
 -- the moves of a command that does not fail
 abbrev pub movesOf : Kind → Command → List Move
 movesOf Nop c = []
-movesOf Write c = stores (c .address / 4) (firstOf (c .byte1)) (finalOf (c .byte1)) (c .payload)
+movesOf Write c = stores (c .address / 4) (firstField (c .byte1)) (lastField (c .byte1)) (c .payload)
 movesOf Read c = fetches (c .address / 4) (c .count)
 movesOf Response c = []
 
@@ -56,13 +56,13 @@ moves kind size [] = []
 moves kind size (c ∷ cs) = cond (fails kind size c) [] (movesOf kind c ++ moves kind size cs)
 
 -- "A write changes exactly the enabled bytes"
-abbrev pub moved : List ℕ → Move → List ℕ
-moved memory (Fetch i) = memory
-moved memory (Store i w enables) = set memory i (merged (getD memory i 0) w enables)
+abbrev pub afterMove : List ℕ → Move → List ℕ
+afterMove memory (Fetch i) = memory
+afterMove memory (Store i w enables) = set memory i (merged (getD memory i 0) w enables)
 
 unfoldable pub afterMoves : List ℕ → List Move → List ℕ
 afterMoves memory [] = memory
-afterMoves memory (v ∷ vs) = afterMoves (moved memory v) vs
+afterMoves memory (v ∷ vs) = afterMoves (afterMove memory v) vs
 
 -- memory after a message
 unfoldable pub memoryAfter : Request → List ℕ → List ℕ

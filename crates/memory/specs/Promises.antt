@@ -1,5 +1,5 @@
 -- What is promised of memory, in other words than its definitions: so a wrong definition cannot hide. The proofs are in
--- proofs/Laws/LastWrite.antt and proofs/Laws/Promised.antt. Assumes nothing.
+-- proofs/Laws/LastWrite.antt and proofs/Laws/Promises.antt. Assumes nothing.
 use Prim.Native.Nat.{ℕ, suc, _+_, _-_, _/_, _<_}
 use mathlib.Core.Path.{_≡_}
 use mathlib.Core.Bool.{Bool, true, false, cond, _&&_, _||_}
@@ -10,7 +10,7 @@ use Rattle.word.specs.Words.{Words}
 use Rattle.word.specs.Enables.{byteOf, bitOf}
 use Rattle.header.specs.declared.Kind.{Kind}
 use Rattle.header.specs.declared.Kind.the-variants.{Write}
-use Rattle.header.specs.Header.{kindOf, firstOf, finalOf}
+use Rattle.header.specs.Header.{kindOf, firstField, lastField}
 use Rattle.message.specs.Request.{Command, Request}
 use Rattle.memory.specs.Moves.{fails, memoryAfter}
 
@@ -21,11 +21,12 @@ carried kind size (c ∷ cs) = cond (fails kind size c) [] (c ∷ carried kind s
 
 -- the enables of word j of a write: the first, the last, and all four bytes in the middle
 unfoldable pub enablesAt : Command → ℕ → ℕ
-enablesAt c j = cond (eqb j 0) (firstOf (c .byte1)) (cond (eqb (suc j) (c .count)) (finalOf (c .byte1)) 15)
+enablesAt c j = cond (eqb j 0) (firstField (c .byte1)) (cond (eqb (suc j) (c .count)) (lastField (c .byte1)) 15)
 
 -- whether a write enables byte k of word i of memory
 unfoldable pub enables : ℕ → ℕ → Command → Bool
-enables i k c = leb (c .address / 4) i && ltb i (c .address / 4 + c .count) && bitOf k (enablesAt c (i - c .address / 4))
+enables i k c = leb (c .address / 4) i && ltb i (c .address / 4 + c .count)
+    && bitOf k (enablesAt c (i - c .address / 4))
 
 unfoldable pub anyEnables : ℕ → ℕ → List Command → Bool
 anyEnables i k [] = false
@@ -38,7 +39,8 @@ byteAt memory i k = byteOf k (getD memory i 0)
 -- "each byte of memory is that of the last OK write that enables it, else the old one"
 pub record LastWrite (r : Request) (memory : List ℕ) : Type 0 where
   pub last : (before : List Command) (c : Command) (after : List Command) (i k : ℕ) → k < 4
-      → carried Write (length memory) (r .commands) ≡ before ++ (c ∷ after) → enables i k c ≡ true → anyEnables i k after ≡ false
+      → carried Write (length memory) (r .commands) ≡ before ++ (c ∷ after) → enables i k c ≡ true
+      → anyEnables i k after ≡ false
       → byteAt (memoryAfter r memory) i k ≡ byteOf k (getD (c .payload) (i - c .address / 4) 0)
   pub old : (i k : ℕ) → k < 4 → anyEnables i k (carried Write (length memory) (r .commands)) ≡ false
       → byteAt (memoryAfter r memory) i k ≡ byteAt memory i k

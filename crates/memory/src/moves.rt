@@ -3,11 +3,11 @@ ghost use mathlib.Core.Path.{_≡_};
 ghost use Prim.Native.Nat.{_+_, _*_, _<_, _≤_};
 ghost use lib.ListN.{length, take, drop};
 ghost use Rattle.word.specs.Words.{wordsOf, longest};
-ghost use Rattle.header.specs.Header.{firstOf, finalOf};
-ghost use Rattle.memory.specs.Moves.{outside, Store, stores, moved, afterMoves};
+ghost use Rattle.header.specs.Header.{firstField, lastField};
+ghost use Rattle.memory.specs.Moves.{outside, Store, stores, afterMove, afterMoves};
 
-// Whether a read or write fails: its address is not a multiple of 4, or a word of its range lies past the end of memory, which has
-// `size` words. Nothing wraps: the sum is made in 64 bits, of word numbers.
+// Whether a read or write fails: its address is not a multiple of 4, or a word of its range lies past the end of
+// memory, which has `size` words. Nothing wraps: the sum is made in 64 bits, of word numbers.
 pub fn outside(size: usize, address: u64, count: usize) -> bool
     requires { ⌜ count < 4096 ⌝ }
     ensures { λ r. ⌜ r ≡ outside size address count ⌝ }
@@ -21,7 +21,7 @@ pub fn outside(size: usize, address: u64, count: usize) -> bool
 // One word, under byte enables.
 pub fn store(memory: &mut [u32], at: usize, w: u32, enables: u32)
     requires { ⌜ at < length (now memory) ⌝ }
-    ensures { λ _. ⌜ now (memory .exit) ≡ moved (now (memory .entry)) (Store at w enables) ⌝ }
+    ensures { λ _. ⌜ now (memory .exit) ≡ afterMove (now (memory .entry)) (Store at w enables) ⌝ }
 {
     memory[at] = word::merge(memory[at], w, enables);
 }
@@ -35,15 +35,20 @@ pub fn store_words(
     count: usize,
     byte1: u32,
 )
-    requires { ⌜ (2 ≤ count) × (count ≤ longest) × (at + count ≤ length (now memory)) × (4 * (from + count) ≤ length (now datagram)) ⌝ }
+    requires { ⌜ (2 ≤ count)
+        × (count ≤ longest)
+        × (at + count ≤ length (now memory))
+        × (4 * (from + count) ≤ length (now datagram)) ⌝ }
     ensures { λ _. ⌜ now (memory .exit)
-        ≡ afterMoves (now (memory .entry)) (stores at (firstOf byte1) (finalOf byte1) (take count (drop from (wordsOf (now (datagram .entry)))))) ⌝ }
+        ≡ afterMoves (now (memory .entry))
+        (stores at (firstField byte1) (lastField byte1)
+        (take count (drop from (wordsOf (now (datagram .entry)))))) ⌝ }
 {
     let between = count - 2;
-    let first = header::first(byte1);
+    let first = header::first_field(byte1);
     store(memory, at, word::word_at(datagram, from), first);
     word::run::get_words(memory, at + 1, datagram, from + 1, between);
-    let last = header::final_of(byte1);
+    let last = header::last_field(byte1);
     store(
         memory,
         at + 1 + between,
@@ -52,7 +57,8 @@ pub fn store_words(
     );
 }
 
-// A write's words, from word `at` on. Gives where the next header stands, which for one word does not wait for the count.
+// A write's words, from word `at` on. Gives where the next header stands, which for one word does not wait for the
+// count.
 pub fn store_all(
     memory: &mut [u32],
     at: usize,
@@ -61,16 +67,21 @@ pub fn store_all(
     count: usize,
     byte1: u32,
 ) -> usize
-    requires { ⌜ (1 ≤ count) × (count ≤ longest) × (at + count ≤ length (now memory)) × (4 * (from + count) ≤ length (now datagram)) ⌝ }
+    requires { ⌜ (1 ≤ count)
+        × (count ≤ longest)
+        × (at + count ≤ length (now memory))
+        × (4 * (from + count) ≤ length (now datagram)) ⌝ }
     ensures { λ r. ⌜ (r ≡ from + count) × (now (memory .exit)
-        ≡ afterMoves (now (memory .entry)) (stores at (firstOf byte1) (finalOf byte1) (take count (drop from (wordsOf (now (datagram .entry))))))) ⌝ }
+        ≡ afterMoves (now (memory .entry))
+        (stores at (firstField byte1) (lastField byte1)
+        (take count (drop from (wordsOf (now (datagram .entry))))))) ⌝ }
 {
     if count == 1 {
         store(
             memory,
             at,
             word::word_at(datagram, from),
-            header::first(byte1),
+            header::first_field(byte1),
         );
         return from + 1;
     }

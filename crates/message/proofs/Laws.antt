@@ -1,4 +1,4 @@
--- Laws of the crate `message` that belong to no one function; the crates above cite them.
+-- The laws of the crate `message`: its promises, and what the crates above cite.
 pub mod Addresses
 pub mod Back
 pub mod Exactly

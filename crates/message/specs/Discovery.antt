@@ -1,4 +1,5 @@
--- The fixed discovery, which the loader sends and the controller answers: the contracts and theorems of both cite it. Assumes nothing.
+-- The fixed discovery, which the loader sends and the controller answers: the contracts and theorems of both cite it.
+-- Assumes nothing.
 use Prim.Native.Nat.{ℕ}
 use mathlib.Core.List.{List, [], _∷_}
 use mathlib.Core.Bool.{true, false}

@@ -1,4 +1,5 @@
--- The refusals 2 to 10 in their own words, apart from the walk: what `proofs/Laws/Exactly.antt` shows of `read`. Assumes nothing.
+-- The refusals 2 to 10 in their own words, apart from the walk: what `proofs/Laws/Exactly.antt` shows of `read`.
+-- Assumes nothing.
 use Prim.Native.Nat.{ℕ, _<_, _≤_}
 use mathlib.Core.Path.{_≡_}
 use mathlib.Core.Logic.{_↔_}
@@ -10,7 +11,7 @@ use Rattle.header.specs.Limits.{limit, lengthOk}
 use Rattle.header.specs.Header.{addressWords}
 use Rattle.header.specs.Refusal.{refusedAt}
 use Rattle.message.specs.Faults.{faultOf}
-use Rattle.message.specs.Request.{Command, Request, Wrong, Means, replies, commandWords, written, FitsCommand, All, FitsAsked, Fits}
+use Rattle.message.specs.Request.{Command, Request, Refused, Means, replies, commandWords, written, FitsCommand, All, FitsAsked, Fits}
 use Rattle.message.specs.Address.{addressFrom}
 use Rattle.message.specs.Walk.{read}
 
@@ -42,7 +43,9 @@ pub record TooLong (dg : List ℕ) : Type 0 where
 
 -- "given exactly when": for any bytes, each refusal with its index, and none of them
 pub record Exactly (dg : List ℕ) : Type 0 where
-  pub two : (at : ℕ) → (read dg ≡ Wrong (refusedAt 2 at)) ↔ ((lengthOk (length dg) ≡ false) × (at ≡ 0))
-  pub faults : (n at : ℕ) → 3 ≤ n → n ≤ 9 → (read dg ≡ Wrong (refusedAt n at)) ↔ ((lengthOk (length dg) ≡ true) × FaultAfter (getD dg 0 0) n at (wordsOf dg))
-  pub ten : (at : ℕ) → (read dg ≡ Wrong (refusedAt 10 at)) ↔ (TooLong dg × (at ≡ 0))
+  pub two : (at : ℕ) → (read dg ≡ Refused (refusedAt 2 at)) ↔ ((lengthOk (length dg) ≡ false) × (at ≡ 0))
+  pub faults : (n at : ℕ) → 3 ≤ n → n ≤ 9
+      → (read dg ≡ Refused (refusedAt n at))
+      ↔ ((lengthOk (length dg) ≡ true) × FaultAfter (getD dg 0 0) n at (wordsOf dg))
+  pub ten : (at : ℕ) → (read dg ≡ Refused (refusedAt 10 at)) ↔ (TooLong dg × (at ≡ 0))
   pub fine : (r : Request) → (read dg ≡ Means r) ↔ (Fits r × (dg ≡ written r))

@@ -1,4 +1,5 @@
--- Worked and hostile examples, from bytes, with the refusal that each must get. `proofs/Laws/Worked.antt` computes them. Assumes nothing.
+-- Worked and hostile examples, from bytes, with the refusal that each must get. `proofs/Laws/Worked.antt` computes
+-- them. Assumes nothing.
 use Prim.Native.Nat.{ℕ, zero, suc, _+_}
 use mathlib.Core.Path.{_≡_}
 use mathlib.Core.Bool.{Bool, true, _&&_}
@@ -48,7 +49,8 @@ gapped address = 0x8002A510 ∷ address ∷ gappedWords
 
 unfoldable pub requests : List Example
 requests =
-    -- good ones: a write, a read whose byte 1 is not looked at, a NOP of no words, no byte enabled, two commands, 64 bits
+    -- good ones: a write, a read whose byte 1 is not looked at, a NOP of no words, no byte enabled, two commands, 64
+    -- bits
     words (0x80010F10 ∷ 0x00000004 ∷ 0xFEEDC0DE ∷ []) 0
     ∷ words (0x8001FF20 ∷ 0x00000010 ∷ []) 0
     ∷ words (0x80000000 ∷ []) 0
@@ -89,7 +91,8 @@ requests =
     ∷ words (0x80011F10 ∷ 0x00000004 ∷ 0x00000000 ∷ []) 8
     ∷ words (0x8002F010 ∷ 0x00000004 ∷ 0x00000000 ∷ 0x00000000 ∷ []) 8
     ∷ words (0x80020F10 ∷ 0x00000004 ∷ 0x00000000 ∷ 0x00000000 ∷ []) 8
-    -- gaps: at 8, at 12, at an address that is no multiple of 4; in 64 bits, beyond 2^32, at 8 and at 12; with count 3 at 8
+    -- gaps: at 8, at 12, at an address that is no multiple of 4; in 64 bits, beyond 2^32, at 8 and at 12; with count 3
+    -- at 8
     ∷ words (gapped 8) 0
     ∷ words (gapped 12) 8
     ∷ words (gapped 10) 8
@@ -118,7 +121,8 @@ requests =
     ∷ words (0x80011F10 ∷ []) 3
     ∷ words (0x80011F50 ∷ 0x00000004 ∷ []) 3
     ∷ words (0x80011F10 ∷ 0x00000004 ∷ []) 8
-    -- at a later header: each of the others that one can get, 9 at LAST itself; 4 at the fifth; no word there behind two
+    -- at a later header: each of the others that one can get, 9 at LAST itself; 4 at the fifth; no word there behind
+    -- two
     ∷ wordsAt (openWrite (0x80010F10 ∷ [])) 3 3
     ∷ wordsAt (openWrite (0x80010F10 ∷ 0x00000004 ∷ [])) 3 3
     ∷ wordsAt (openWrite (0x90010F10 ∷ 0x00000004 ∷ 0x22222222 ∷ [])) 6 3
@@ -137,9 +141,11 @@ unfoldable pub patterns : ℕ → ℕ → ℕ → ℕ
 patterns zero count address = 0
 patterns (suc n) count address = bit (enablesOk Write count address n) + patterns n count address
 
--- of all 256: any first field; any two but 0; and, at 12 or with more words, the four of the one list with the four of the other
+-- of all 256: any first field; any two but 0; and, at 12 or with more words, the four of the one list with the four of
+-- the other
 abbrev pub PatternsCounted : Type 0
-PatternsCounted = (patterns 256 1 12 ≡ 16) × (patterns 256 2 8 ≡ 225) × (patterns 256 2 12 ≡ 16) × (patterns 256 3 8 ≡ 16)
+PatternsCounted = (patterns 256 1 12 ≡ 16) × (patterns 256 2 8 ≡ 225) × (patterns 256 2 12 ≡ 16)
+    × (patterns 256 3 8 ≡ 16)
 
 -- [6] "the fixed discovery 80020080 0000230C 00000000"
 abbrev pub DiscoveryShown : Type 0

@@ -1,11 +1,11 @@
--- What can be wrong with a header: "at each header 3 (no word there), 4 to 8, 3 (body past the end), 9", but "where a write's address
--- words are missing, 3 comes before 8". Assumes nothing.
+-- What can be wrong with a header: "at each header 3 (no word there), 4 to 8, 3 (body past the end), 9", but "where a
+-- write's address words are missing, 3 comes before 8". Assumes nothing.
 use Prim.Native.Nat.{ℕ, _%_}
 use mathlib.Core.Bool.{Bool, true, false, not, cond, _&&_, _||_}
 use lib.Dec.{leb, eqb}
 use Rattle.header.specs.declared.Kind.{Kind}
 use Rattle.header.specs.declared.Kind.the-variants.{Nop, Write, Read as Reads, Response}
-use Rattle.header.specs.Header.{kindOf, byte0Of, byte1Of, firstOf, finalOf, countOf, reservedOf, lastOf, addressWords, bodyWords, endsOk}
+use Rattle.header.specs.Header.{kindOf, byte0Of, byte1Of, firstField, lastField, countOf, reservedOf, lastOf, addressWords, bodyWords, endsOk}
 use Rattle.header.specs.Refusal.{unless}
 
 -- a request's kind: every one but "3 response"
@@ -24,35 +24,35 @@ countOk Response count = false
 
 -- "with count 1 the last field is 0 and the first is anything; with count 2 or more both are nonzero"
 abbrev pub zerosOk : ℕ → ℕ → ℕ → Bool
-zerosOk count first final = cond (eqb count 1) (eqb final 0) (not (eqb first 0) && not (eqb final 0))
+zerosOk count first last = cond (eqb count 1) (eqb last 0) (not (eqb first 0) && not (eqb last 0))
 
 -- "Gaps inside the enables are allowed only for count 1, and for count 2 at an address that is a multiple of 8"
 abbrev pub gapsOk : ℕ → ℕ → Bool
 gapsOk count address = eqb count 1 || eqb count 2 && eqb (address % 8) 0
 
 -- "Every other write must have a first field of F, E, C or 8 and a last field of F, 7, 3 or 1"
-abbrev pub firstOk : ℕ → Bool
-firstOk first = eqb first 0xF || eqb first 0xE || eqb first 0xC || eqb first 0x8
+abbrev pub firstFieldOk : ℕ → Bool
+firstFieldOk first = eqb first 0xF || eqb first 0xE || eqb first 0xC || eqb first 0x8
 
-abbrev pub finalOk : ℕ → Bool
-finalOk final = eqb final 0xF || eqb final 0x7 || eqb final 0x3 || eqb final 0x1
+abbrev pub lastFieldOk : ℕ → Bool
+lastFieldOk last = eqb last 0xF || eqb last 0x7 || eqb last 0x3 || eqb last 0x1
 
 abbrev pub gapless : ℕ → ℕ → Bool
-gapless first final = firstOk first && finalOk final
+gapless first last = firstFieldOk first && lastFieldOk last
 
 -- the enables that a write of this count at this address may have: both rules hold
 unfoldable pub patternOk : ℕ → ℕ → ℕ → ℕ → Bool
-patternOk count address first final = zerosOk count first final && (gapsOk count address || gapless first final)
+patternOk count address first last = zerosOk count first last && (gapsOk count address || gapless first last)
 
 -- "Byte enables, writes only"; "Byte 1 of reads and NOPs is not looked at"
 abbrev pub enablesOk : Kind → ℕ → ℕ → ℕ → Bool
 enablesOk Nop count address byte1 = true
-enablesOk Write count address byte1 = patternOk count address (firstOf byte1) (finalOf byte1)
+enablesOk Write count address byte1 = patternOk count address (firstField byte1) (lastField byte1)
 enablesOk Reads count address byte1 = true
 enablesOk Response count address byte1 = true
 
--- the first fault, in the document's order, of a header h with `left` words after it and this address, in a message of this byte 0;
--- 0 where it has none
+-- the first fault, in the document's order, of a header h with `left` words after it and this address, in a message of
+-- this byte 0; 0 where it has none
 unfoldable pub faultOf : ℕ → ℕ → ℕ → ℕ → ℕ
 faultOf byte0 h left address =
     unless (eqb (byte0Of h) byte0) 4

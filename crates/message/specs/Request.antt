@@ -12,7 +12,8 @@ use Rattle.header.specs.Refusal.{refusal}
 use Rattle.message.specs.Faults.{asks, countOk, enablesOk}
 use Rattle.message.specs.Address.{addressIn, addressTop}
 
--- "Each command is a header, then its address, then its data": byte 1 as it came, count, address as one number, data words
+-- "Each command is a header, then its address, then its data": byte 1 as it came, count, address as one number, data
+-- words
 pub record Command : Type 0 where
   pub byte1 : ℕ
   pub count : ℕ
@@ -26,17 +27,17 @@ pub record Request : Type 0 where
 
 -- what a datagram comes to: a refusal, or what it means
 pub data Reading (A : Type 0) : Type 0 where
-  Wrong : Refusal → Reading A
+  Refused : Refusal → Reading A
   Means : A → Reading A
 
 -- its refusal; number 0 is none
 abbrev pub refusalIn : {A : Type 0} → Reading A → Refusal
-refusalIn (Wrong r) = r
+refusalIn (Refused r) = r
 refusalIn (Means a) = refusal 0
 
 -- a command before those that follow it
 abbrev pub before : {A : Type 0} → A → Reading (List A) → Reading (List A)
-before c (Wrong r) = Wrong r
+before c (Refused r) = Refused r
 before c (Means cs) = Means (c ∷ cs)
 
 -- whether nothing follows
@@ -51,9 +52,10 @@ replies byte0 (c ∷ cs) = 1 + replyWords (kindOf byte0) (c .count) + replies by
 
 -- a command's words
 unfoldable pub commandWords : ℕ → Bool → Command → List ℕ
-commandWords byte0 last c = headerFrom byte0 (c .byte1) (c .count) last ∷ (addressIn (addressWords byte0) (c .address) ++ c .payload)
+commandWords byte0 last c = headerFrom byte0 (c .byte1) (c .count) last
+    ∷ (addressIn (addressWords byte0) (c .address) ++ c .payload)
 
--- "LAST stands on the final header only"
+-- "LAST stands on the last header only"
 unfoldable pub requestWords : ℕ → List Command → List ℕ
 requestWords byte0 [] = []
 requestWords byte0 (c ∷ cs) = commandWords byte0 (none cs) c ++ requestWords byte0 cs

@@ -6,7 +6,8 @@ ghost use Rattle.word.specs.Words.{wordsOf, putWords};
 ghost use Rattle.header.specs.Header.{addressWords};
 ghost use Rattle.message.specs.Address.{addressFrom, addressIn, addressTop};
 
-// The address of the command whose header stands at word `at`: one word, or two with the low one first; 0 where its kind has none.
+// The address of the command whose header stands at word `at`: one word, or two with the low one first; 0 where its
+// kind has none.
 pub fn address_at(byte0: u32, datagram: &[u8], at: usize) -> u64
     requires { ⌜ 4 * (at + 1 + addressWords byte0) ≤ length (now datagram) ⌝ }
     ensures { λ r. ⌜ r ≡ addressFrom (addressWords byte0) (drop (at + 1) (wordsOf (now (datagram .entry)))) ⌝ }
@@ -24,7 +25,9 @@ pub fn address_at(byte0: u32, datagram: &[u8], at: usize) -> u64
 
 // The words of an address, into the output from word `at` on.
 pub fn put_address(out: &mut [u8], at: usize, n: usize, address: u64)
-    requires { ⌜ (n ≤ 2) × (address < addressTop n) × (4 * (at + n) ≤ length (now out)) ⌝ }
+    requires { ⌜ (n ≤ 2)
+        × (address < addressTop n)
+        × (4 * (at + n) ≤ length (now out)) ⌝ }
     ensures { λ _. ⌜ now (out .exit) ≡ putWords (now (out .entry)) at (addressIn n address) ⌝ }
 {
     if n == 0 {

@@ -3,7 +3,7 @@ ghost use mathlib.Core.Path.{_≡_};
 ghost use Prim.Native.Nat.{_+_, _*_, _≤_};
 ghost use lib.ListN.{length, drop};
 ghost use Rattle.word.specs.Words.{wordsOf};
-ghost use Rattle.message.specs.Faults.{asks, countOk, zerosOk, gapsOk, firstOk, finalOk, gapless, patternOk, enablesOk, faultOf};
+ghost use Rattle.message.specs.Faults.{asks, countOk, zerosOk, gapsOk, firstFieldOk, lastFieldOk, gapless, patternOk, enablesOk, faultOf};
 ghost use Rattle.header.specs.Header.{endsOk, kindOf, countOf, byte1Of, lastOf, addressWords, bodyWords};
 ghost use Rattle.message.specs.Address.{addressFrom};
 use header::Kind;
@@ -59,8 +59,8 @@ fn gaps_ok(count: usize, address: u64) -> bool
 }
 
 // Whether a first field goes up to its word's end without a gap.
-fn first_ok(first: u32) -> bool
-    ensures { λ r. ⌜ r ≡ firstOk first ⌝ }
+fn first_field_ok(first: u32) -> bool
+    ensures { λ r. ⌜ r ≡ firstFieldOk first ⌝ }
 {
     match first {
         0x8 => true,
@@ -71,8 +71,8 @@ fn first_ok(first: u32) -> bool
 }
 
 // Whether a last field goes on from its word's start without a gap.
-fn final_ok(last: u32) -> bool
-    ensures { λ r. ⌜ r ≡ finalOk last ⌝ }
+fn last_field_ok(last: u32) -> bool
+    ensures { λ r. ⌜ r ≡ lastFieldOk last ⌝ }
 {
     match last {
         0x1 => true,
@@ -87,14 +87,14 @@ fn final_ok(last: u32) -> bool
 fn gapless(first: u32, last: u32) -> bool
     ensures { λ r. ⌜ r ≡ gapless first last ⌝ }
 {
-    if !first_ok(first) {
+    if !first_field_ok(first) {
         return false;
     }
-    final_ok(last)
+    last_field_ok(last)
 }
 
-// Whether a write of this count at this address may have these enables for its first and its last word. That neither has a gap is
-// asked first: most have none, both are then nonzero, and the address does not matter.
+// Whether a write of this count at this address may have these enables for its first and its last word. That neither
+// has a gap is asked first: most have none, both are then nonzero, and the address does not matter.
 pub fn pattern_ok(count: usize, address: u64, first: u32, last: u32) -> bool
     ensures { λ r. ⌜ r ≡ patternOk count address first last ⌝ }
 {
@@ -114,11 +114,12 @@ fn count_fits(byte0: u32, h: u32) -> bool
     count_ok(header::kind_of(byte0), header::count(h))
 }
 
-// Whether the header h, at word `at` of a datagram, may have its enables: only a write's are looked at, and of its address the lowest
-// word, which tells a multiple of 8.
+// Whether the header h, at word `at` of a datagram, may have its enables: only a write's are looked at, and of its
+// address the lowest word, which tells a multiple of 8.
 fn enables_fit(byte0: u32, h: u32, datagram: &[u8], at: usize) -> bool
     requires { ⌜ 4 * (at + 1 + addressWords byte0) ≤ length (now datagram) ⌝ }
-    ensures { λ r. ⌜ r ≡ enablesOk (kindOf byte0) (countOf h) (addressFrom (addressWords byte0) (drop (at + 1) (wordsOf (now (datagram .entry))))) (byte1Of h) ⌝ }
+    ensures { λ r. ⌜ r ≡ enablesOk (kindOf byte0) (countOf h)
+        (addressFrom (addressWords byte0) (drop (at + 1) (wordsOf (now (datagram .entry))))) (byte1Of h) ⌝ }
 {
     let kind = header::kind_of(byte0);
     match kind {
@@ -140,10 +141,12 @@ fn ends_fit(byte0: u32, h: u32, left: usize) -> bool
     header::ends_ok(header::last(h), header::body_words(byte0, h), left)
 }
 
-// The first fault of the header h, at word `at` of a datagram with `left` words after it, in the document's order, or 0.
+// The first fault of the header h, at word `at` of a datagram with `left` words after it, in the document's order, or
+// 0.
 pub(crate) fn fault(byte0: u32, h: u32, left: usize, datagram: &[u8], at: usize) -> u32
     requires { ⌜ 4 * (at + 1 + left) ≤ length (now datagram) ⌝ }
-    ensures { λ r. ⌜ r ≡ faultOf byte0 h left (addressFrom (addressWords byte0) (drop (at + 1) (wordsOf (now (datagram .entry))))) ⌝ }
+    ensures { λ r. ⌜ r ≡ faultOf byte0 h left
+        (addressFrom (addressWords byte0) (drop (at + 1) (wordsOf (now (datagram .entry))))) ⌝ }
 {
     if h % 256 != byte0 {
         return Refusal::BYTE_0;

@@ -34,10 +34,11 @@ fn writes(byte0: u32) -> bool
     }
 }
 
-// Whether this is a write of one word without fault, the most common command, whatever its address; of the rest nothing is said. Its
-// last enables are 0, its count is 1 and its reserved bits are 0 exactly if bits 30:12 are 16.
+// Whether this is a write of one word without fault, the most common command, whatever its address; of the rest nothing
+// is said. Its last enables are 0, its count is 1 and its reserved bits are 0 exactly if bits 30:12 are 16.
 fn short_write(byte0: u32, h: u32, left: usize) -> bool
-    ensures { λ r. ⌜ (r ≡ true → (kindOf byte0 ≡ Write) × (countOf h ≡ 1) × ((address : ℕ) → faultOf byte0 h left address ≡ 0)) ⌝ }
+    ensures { λ r. ⌜ (r ≡ true
+        → (kindOf byte0 ≡ Write) × (countOf h ≡ 1) × ((address : ℕ) → faultOf byte0 h left address ≡ 0)) ⌝ }
 {
     if !writes(byte0) {
         return false;
@@ -55,8 +56,8 @@ fn short_write(byte0: u32, h: u32, left: usize) -> bool
     header::ends_ok(header::last(h), body, left)
 }
 
-// The header at word `at` of a datagram. The body of a short write has a size of its own here, so that the processor knows where the
-// next header stands before it has this one.
+// The header at word `at` of a datagram. The body of a short write has a size of its own here, so that the processor
+// knows where the next header stands before it has this one.
 pub(crate) fn step_at(byte0: u32, datagram: &[u8], at: usize) -> Step
     requires { ⌜ at ≤ limit ⌝ }
     ensures { λ r. ⌜ r ≡ stepAt byte0 (wordsOf (now (datagram .entry))) at ⌝ }
@@ -86,10 +87,10 @@ pub(crate) fn step_at(byte0: u32, datagram: &[u8], at: usize) -> Step
     Step::Read(header::head_of(byte0, h))
 }
 
-// What the walk of a whole datagram tells: the words of the all-OK answer, or the refusal.
+// What the walk of a whole datagram tells: byte 0 of its headers, or the refusal.
 pub enum Walked {
-    WellFormed(usize),
-    Malformed(Refusal),
+    WellFormed(u32),
+    Refused(Refusal),
 }
 
 // The refusal that a step gave; number 0 for a step that gave none.
@@ -97,26 +98,23 @@ fn refusal_of(s: Step) -> Refusal
     ensures { λ r. ⌜ r ≡ refusalOf s ⌝ }
 {
     match s {
-        Step::Read(_) => Refusal { number: 0, at: 0 },
+        Step::Read(_) => Refusal::of(Refusal::NONE),
         Step::Refused(refusal) => refusal,
     }
 }
 
-// After the LAST command: the words of the all-OK answer, or 10 where they pass the limit.
-fn end(answer: usize) -> Walked
-    ensures { λ r. ⌜ r ≡ endOf answer ⌝ }
+// After the LAST command: byte 0, or 10 where the words of the all-OK answer pass the limit.
+fn end(byte0: u32, answer: usize) -> Walked
+    ensures { λ r. ⌜ r ≡ endOf byte0 answer ⌝ }
 {
     if limits::LIMIT < answer {
-        return Walked::Malformed(Refusal {
-            number: Refusal::LONG_ANSWER,
-            at: 0,
-        });
+        return Walked::Refused(Refusal::of(Refusal::LONG_ANSWER));
     }
-    Walked::WellFormed(answer)
+    Walked::WellFormed(byte0)
 }
 
-// The commands of a datagram of right length, whose byte 0 is this. `each` is what a word asked for adds to the answer: what the kind
-// decides is decided once.
+// The commands of a datagram of right length, whose byte 0 is this. `each` is what a word asked for adds to the answer:
+// what the kind decides is decided once.
 fn walk_on(datagram: &[u8], byte0: u32) -> Walked
     requires { ⌜ length (now datagram) ≤ limitBytes ⌝ }
     ensures { λ r. ⌜ r ≡ finish byte0 0 (commandsFrom byte0 0 0 (wordsOf (now (datagram .entry)))) ⌝ }
@@ -127,25 +125,22 @@ fn walk_on(datagram: &[u8], byte0: u32) -> Walked
     loop {
         let s = step_at(byte0, datagram, at);
         let Step::Read(head) = s else {
-            return Walked::Malformed(refusal_of(s));
+            return Walked::Refused(refusal_of(s));
         };
         answer = answer + 1 + each * head.count;
         if head.last {
-            return end(answer);
+            return end(byte0, answer);
         }
         at = at + 1 + head.body;
     }
 }
 
-// The walk of any datagram: the words of the all-OK answer, or the refusal 2 to 10.
+// The walk of any datagram: byte 0 of its headers, or the refusal 2 to 10.
 pub fn walk(datagram: &[u8]) -> Walked
     ensures { λ r. ⌜ r ≡ walkOf (now (datagram .entry)) ⌝ }
 {
     if !limits::length_ok(datagram.len()) {
-        return Walked::Malformed(Refusal {
-            number: Refusal::LENGTH,
-            at: 0,
-        });
+        return Walked::Refused(Refusal::of(Refusal::LENGTH));
     }
-    walk_on(datagram, word::wide(datagram[0]))
+    walk_on(datagram, word::from_byte(datagram[0]))
 }

@@ -1,6 +1,5 @@
--- Closed runs of the plain pair: a bad night that the premises allow, and two that they would allow with an age of one more and
--- that break the promise. proofs/Example.antt and proofs/Sharp.antt compute them.
--- Assumes nothing.
+-- Closed runs of the plain pair: a bad night that the premises allow, and two that they would allow with an age of one
+-- more and that break the promise. proofs/Example.antt and proofs/Sharp.antt compute them. Assumes nothing.
 use Prim.Native.Nat.{ℕ, zero, suc, _+_, _*_, _-_, _%_}
 use mathlib.Core.Option.{none}
 use mathlib.Core.List.{List, [], _∷_, _++_}
@@ -10,8 +9,8 @@ use Rattle.once.specs.World.{Ends, Event, offer, send, arrive, back, oth
 use Rattle.once.specs.Promise.{Terms, Ages, usual, Safe, AllowedRun, after}
 use Rattle.once.specs.Pair.{Work, Message, discovery, Controller, Sender, ends, terms}
 
--- Memory is a list of numbers. Carrying out 0 leaves it as it is, and any other number is put at its end; the outcome is how many
--- numbers memory held.
+-- Memory is a list of numbers. Carrying out 0 leaves it as it is, and any other number is put at its end; the outcome
+-- is how many numbers memory held.
 abbrev pub put : List ℕ → ℕ → List ℕ
 put m zero = m
 put m (suc n) = m ++ suc n ∷ []
@@ -47,15 +46,18 @@ end es = after pair 1 controller sender es
 abbrev pub evening : List (Event pair)
 evening = send 0 ∷ offer (numbered 0) ∷ offer (numbered 5) ∷ []
 
--- Two rounds for message i. The first send does not arrive; a discovery comes instead, and its answer reaches the sender.
+-- Two rounds for message i. The first send does not arrive; a discovery comes instead, and its answer reaches the
+-- sender.
 abbrev pub first : ℕ → List (Event pair)
 first i = other (discovery 0) 1 ∷ back (4 * i) ∷ []
 
--- The second send arrives, its answer is back, and it arrives once more. Then comes the first send of a message 14 behind, which was
--- given up for lost. The next message is offered, and the answer to the message 15 behind it comes again.
+-- The second send arrives, its answer is back, and it arrives once more. Then comes the first send of a message 14
+-- behind, which was given up for lost. The next message is offered, and the answer to the message 15 behind it comes
+-- again.
 abbrev pub second : ℕ → List (Event pair)
 second i =
-    arrive (2 * i + 2) 1 ∷ back (4 * i + 1) ∷ arrive (2 * i + 2) 9 ∷ arrive (2 * (i - 14) + 1) 1 ∷ offer (numbered (i + 1)) ∷ back (4 * (i - 14) + 1) ∷ []
+    arrive (2 * i + 2) 1 ∷ back (4 * i + 1) ∷ arrive (2 * i + 2) 9 ∷ arrive (2 * (i - 14) + 1) 1
+    ∷ offer (numbered (i + 1)) ∷ back (4 * (i - 14) + 1) ∷ []
 
 -- the rounds of n messages, from message i on
 abbrev pub rows : ℕ → ℕ → List (List (Event pair))
@@ -78,7 +80,8 @@ laterRequests = record { request = usual .request + 1; answer = usual .answer }
 abbrev pub lateRequest : List (Event pair)
 lateRequest = plainly 16 0 ++ arrive 0 1 ∷ []
 
--- With answers let in that are one more behind: while the seventeenth message waits, the first one's answer comes again.
+-- With answers let in that are one more behind: while the seventeenth message waits, the first one's answer comes
+-- again.
 abbrev pub laterAnswers : Ages
 laterAnswers = record { request = usual .request; answer = usual .answer + 1 }
 

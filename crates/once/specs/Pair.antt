@@ -1,6 +1,5 @@
--- A plain pair of ends with tags modulo 16, over any memory and any bodies of messages: the facts of Tags.antt hold of it
--- (proofs/Pair.antt), so the promise does. Example.antt runs it.
--- Assumes nothing.
+-- A plain pair of ends with tags modulo 16, over any memory and any bodies of messages: the facts of Tags.antt hold of
+-- it (proofs/Pair.antt), so the promise does. Example.antt runs it. Assumes nothing.
 use Prim.Native.Nat.{ℕ, zero, suc, _+_, _%_, _<_}
 use mathlib.Core.Path.{_≡_}
 use mathlib.Core.Bool.{cond}
@@ -50,7 +49,8 @@ module _ (K : Work) where
   -- "With the discovery bit the tag is not compared, the message is carried out, and tag and stored answer stay."
   abbrev pub received : Controller → Datagram → Controller × Option Datagram
   received c (request t x) = serveAs (verdict (tagIn (c .stored)) t) c t x
-  received c (discovery x) = (record { memory = K .carry (c .memory) x; stored = c .stored }, some (found (K .outcome (c .memory) x)))
+  received c (discovery x) =
+      (record { memory = K .carry (c .memory) x; stored = c .stored }, some (found (K .outcome (c .memory) x)))
   received c (answer t o) = (c, none)
   received c (found o) = (c, none)
 

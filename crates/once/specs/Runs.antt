@@ -28,4 +28,5 @@ module _ {X Y : Type 0} (step : X → Y → X) where
   -- Of any L rounds in a row one is good, as long as it is not Over.
   abbrev pub Often : Y → (X → List Y → Type 0) → (X → Type 0) → ℕ → X → List (List Y) → Type 0
   Often send Good Over L w rs =
-      (i : ℕ) → i + L ≤ length rs → ((j : ℕ) × (i ≤ j) × (j < i + L) × Good (before send w rs j) (getD rs j [])) ⊎ Over (before send w rs (i + L))
+      (i : ℕ) → i + L ≤ length rs
+      → ((j : ℕ) × (i ≤ j) × (j < i + L) × Good (before send w rs j) (getD rs j [])) ⊎ Over (before send w rs (i + L))

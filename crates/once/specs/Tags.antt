@@ -1,6 +1,6 @@
--- Tags modulo 16, one message at a time: the tag rule, and the facts about single calls by which two ends meet the laws of Laws.antt
--- with W = 1 (proofs/Tags.antt). Nothing else in this crate knows of tags, but for the pair of ends of Pair.antt and its runs.
--- Assumes nothing.
+-- Tags modulo 16, one message at a time: the tag rule, and the facts about single calls by which two ends meet the laws
+-- of Laws.antt with W = 1 (proofs/Tags.antt). Nothing else in this crate knows of tags, but for the pair of ends of
+-- Pair.antt and its runs. Assumes nothing.
 use Prim.Native.Nat.{ℕ, suc, _+_, _%_, _≤_, _<_}
 use mathlib.Core.Path.{_≡_}
 use mathlib.Core.Bool.{cond}
@@ -11,7 +11,8 @@ use lib.ListN.{length, getElem?}
 use Rattle.once.specs.World.{Ends, World, finished}
 use Rattle.once.specs.Promise.{Terms}
 
--- "Fresh takes any tag as new. Otherwise the stored tag is a repeat .. The next tag, modulo 16, is new .. Any other is out of step."
+-- "Fresh takes any tag as new. Otherwise the stored tag is a repeat .. The next tag, modulo 16, is new .. Any other is
+-- out of step."
 pub data Verdict : Type 0 where
   new again late : Verdict
 
@@ -36,12 +37,14 @@ answerIn (some p) = some (p .1)
 module _ (E : Ends) (T : Terms E) where
   open Ends E using (Message, Datagram, Outcome, Lent, Controller, Sender)
 
-  -- What is seen of two ends with tags. A controller's state may hold more, as words past the stored answer: it is not looked at.
+  -- What is seen of two ends with tags. A controller's state may hold more, as words past the stored answer: it is not
+  -- looked at.
   pub record Sight : Type 1 where
     -- the message is well-formed and no discovery; its tag
     pub Plain : Message → Type 0
     pub tag : Message → ℕ
-    -- the controller's buffers have allowed lengths and its record is allowed; the stored tag with the stored answer, as it is sent
+    -- the controller's buffers have allowed lengths and its record is allowed; the stored tag with the stored answer,
+    -- as it is sent
     pub Sound : Controller → Type 0
     pub stored : Controller → Option (ℕ × Datagram)
     -- Last c d: as far as the controller c can tell, d is the message whose answer is stored
@@ -49,14 +52,15 @@ module _ (E : Ends) (T : Terms E) where
     -- the sender's next tag, and the message that waits
     pub next : Sender → ℕ
     pub waiting : Sender → Option Message
-    -- Copy d x: x carries d. Answer d o a: a answers d and gives it the outcome o. Strange a: a answers no plain message.
+    -- Copy d x: x carries d. Answer d o a: a answers d and gives it the outcome o. Strange a: a answers no plain
+    -- message.
     pub Copy : Message → Datagram → Type 0
     pub Answer : Message → Outcome → Datagram → Type 0
     pub Strange : Datagram → Type 0
 
   module _ (S : Sight) where
-    -- "Send .. from a fresh pair or a discovery answer made since the last accepted request": nothing waits, and the sender's next tag
-    -- is the one after the stored.
+    -- "Send .. from a fresh pair or a discovery answer made since the last accepted request": nothing waits, and the
+    -- sender's next tag is the one after the stored.
     pub record Start (c : Controller) (s : Sender) : Type 0 where
       pub sound : S .Sound c
       pub nothing : S .waiting s ≡ none
@@ -109,13 +113,17 @@ module _ (E : Ends) (T : Terms E) where
       pub fits : {s : Sender} {d : Message} → T .Fits s d → S .Plain d × (S .tag d ≡ S .next s)
       -- a copy of a message arrives: the tag rule
       pub new :
-          {c : Controller} {b : Lent} {d : Message} {x : Datagram} → S .Sound c → T .Lendable b → S .Plain d → S .Copy d x →
+          {c : Controller} {b : Lent} {d : Message} {x : Datagram} → S .Sound c → T .Lendable b → S .Plain d
+          → S .Copy d x →
           verdict (tagIn (S .stored c)) (S .tag d) ≡ new → Carried c d (E .serve c b x)
       pub again :
-          {c : Controller} {b : Lent} {d : Message} {x : Datagram} → S .Sound c → T .Lendable b → S .Plain d → S .Copy d x →
-          verdict (tagIn (S .stored c)) (S .tag d) ≡ again → S .Last c d → ((E .serve c b x) .1 ≡ answerIn (S .stored c)) × Kept c ((E .serve c b x) .0)
+          {c : Controller} {b : Lent} {d : Message} {x : Datagram} → S .Sound c → T .Lendable b → S .Plain d
+          → S .Copy d x →
+          verdict (tagIn (S .stored c)) (S .tag d) ≡ again → S .Last c d
+          → ((E .serve c b x) .1 ≡ answerIn (S .stored c)) × Kept c ((E .serve c b x) .0)
       pub late :
-          {c : Controller} {b : Lent} {d : Message} {x : Datagram} → S .Sound c → T .Lendable b → S .Plain d → S .Copy d x →
+          {c : Controller} {b : Lent} {d : Message} {x : Datagram} → S .Sound c → T .Lendable b → S .Plain d
+          → S .Copy d x →
           verdict (tagIn (S .stored c)) (S .tag d) ≡ late → ((E .serve c b x) .1 ≡ none) × Kept c ((E .serve c b x) .0)
       -- a quiet datagram arrives
       pub quiet :
@@ -123,15 +131,18 @@ module _ (E : Ends) (T : Terms E) where
           Kept c ((E .serve c b x) .0) × ((a : Datagram) → (E .serve c b x) .1 ≡ some a → S .Strange a)
       -- an offer, when nothing waits and when a message does
       pub offers :
-          {s : Sender} {d : Message} → S .waiting s ≡ none → T .Fits s d → (S .next (E .offer s d) ≡ S .next s) × (S .waiting (E .offer s d) ≡ some d)
+          {s : Sender} {d : Message} → S .waiting s ≡ none → T .Fits s d
+          → (S .next (E .offer s d) ≡ S .next s) × (S .waiting (E .offer s d) ≡ some d)
       pub full : {s : Sender} {d : Message} (e : Message) → Waits s d → Still s (E .offer s e)
       -- a send, when a message waits and when nothing does
       pub sends : {s : Sender} {d : Message} → Waits s d → (x : Datagram) × (E .send s 0 ≡ some x) × S .Copy d x
       pub idle : (s : Sender) → S .waiting s ≡ none → E .send s 0 ≡ none
       -- the answer to the message that waits; to a message of another tag; to none; and any when nothing waits
-      pub own : {s : Sender} {d : Message} {o : Outcome} {a : Datagram} → Waits s d → S .Answer d o a → Ended s o (E .take s a)
+      pub own : {s : Sender} {d : Message} {o : Outcome} {a : Datagram} → Waits s d → S .Answer d o a
+          → Ended s o (E .take s a)
       pub others :
-          {s : Sender} {d e : Message} {o : Outcome} {a : Datagram} → Waits s d → S .Plain e → S .Answer e o a → (S .tag e ≡ S .tag d → ⊥) → Turned s (E .take s a)
+          {s : Sender} {d e : Message} {o : Outcome} {a : Datagram} → Waits s d → S .Plain e → S .Answer e o a
+          → (S .tag e ≡ S .tag d → ⊥) → Turned s (E .take s a)
       pub strange : {s : Sender} {d : Message} {a : Datagram} → Waits s d → S .Strange a → Turned s (E .take s a)
       pub unasked : {s : Sender} (a : Datagram) → S .waiting s ≡ none → Turned s (E .take s a)
 
@@ -142,8 +153,10 @@ module _ (E : Ends) (T : Terms E) where
       -- "tagged as offering asks": the sender's record says the tag of the message to be finished next
       pub next : S .next (w .sender) ≡ (S .next s + finished E w) % 16
       -- "the last accepted": the controller stores the tag of the last of those that the world counts as taken
-      pub last : (i : ℕ) (d : Message) → suc i ≡ w .taken → getElem? (w .offered) i ≡ some d → tagIn (S .stored (w .controller)) ≡ some (S .tag d)
+      pub last : (i : ℕ) (d : Message) → suc i ≡ w .taken → getElem? (w .offered) i ≡ some d
+          → tagIn (S .stored (w .controller)) ≡ some (S .tag d)
       -- a sender made anew from what the controller stores is a start with it, whatever waited
-      pub anew : (s′ : Sender) → S .waiting s′ ≡ none → S .next s′ ≡ nextTag (tagIn (S .stored (w .controller))) → Start (w .controller) s′
+      pub anew : (s′ : Sender) → S .waiting s′ ≡ none → S .next s′ ≡ nextTag (tagIn (S .stored (w .controller)))
+          → Start (w .controller) s′
       -- and when all that was offered is finished, the two are again a start
       pub again : length (w .offered) ≤ finished E w → Start (w .controller) (w .sender)

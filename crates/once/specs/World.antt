@@ -7,8 +7,9 @@ use mathlib.Core.List.{List, [], _∷_, _++_}
 use lib.Dec.{eqb, ltb}
 use lib.ListN.{length, getD}
 
--- A controller and a sender: what their calls do, and nothing of what holds of it. A message is what is offered and carried
--- out; a datagram is what the channel carries, either way. `Lent` is what the controller is lent for one call, its output.
+-- A controller and a sender: what their calls do, and nothing of what holds of it. A message is what is offered and
+-- carried out; a datagram is what the channel carries, either way. `Lent` is what the controller is lent for one call,
+-- its output.
 pub record Ends : Type 1 where
   pub Message : Type 0
   pub Datagram : Type 0
@@ -48,8 +49,8 @@ pub record World (E : Ends) : Type 0 where
   pub sender : E .Sender
   -- the messages so far, in order
   pub offered : List (E .Message)
-  -- how many messages came to the controller in their turn: by the laws it accepts these and no other, so that the last accepted is
-  -- the last of them
+  -- how many messages came to the controller in their turn: by the laws it accepts these and no other, so that the last
+  -- accepted is the last of them
   pub taken : ℕ
   -- the outcomes handed over so far
   pub outcomes : List (E .Outcome)

@@ -1,6 +1,6 @@
--- Ends whose datagrams cross the channel wrapped, as in frames of another carrier: what is sent and what is given is wrapped, and
--- what comes is unwrapped first. If the ends meet the laws, so do these (proofs/Wrapped.antt).
--- Assumes nothing.
+-- Ends whose datagrams cross the channel wrapped, as in frames of another carrier: what is sent and what is given is
+-- wrapped, and what comes is unwrapped first. If the ends meet the laws, so do these (proofs/Wrapped.antt). Assumes
+-- nothing.
 use Prim.Native.Nat.{ℕ}
 use mathlib.Core.Path.{_≡_}
 use mathlib.Core.Option.{Option, none, some}
@@ -60,7 +60,9 @@ module _ (E : Ends) (X : Wrap (E .Datagram)) where
       }
 
   -- What carries a message and what answers one comes through whole; what answers none still answers none.
-  pub record Crosses (Copy : E .Message → E .Datagram → Type 0) (Answer : E .Message → E .Outcome → E .Datagram → Type 0) (Strange : E .Datagram → Type 0) : Type 0 where
+  pub record Crosses (Copy : E .Message → E .Datagram → Type 0)
+      (Answer : E .Message → E .Outcome → E .Datagram → Type 0) (Strange : E .Datagram → Type 0) : Type 0 where
     pub messages : (h : X .Head) {d : E .Message} {y : E .Datagram} → Copy d y → X .unwrap (X .wrap h y) ≡ some y
-    pub answers : (h : X .Head) {d : E .Message} {o : E .Outcome} {a : E .Datagram} → Answer d o a → X .unwrap (X .wrap h a) ≡ some a
+    pub answers : (h : X .Head) {d : E .Message} {o : E .Outcome} {a : E .Datagram} → Answer d o a
+        → X .unwrap (X .wrap h a) ≡ some a
     pub strangers : (h : X .Head) {a b : E .Datagram} → Strange a → X .unwrap (X .wrap h a) ≡ some b → Strange b

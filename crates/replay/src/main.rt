@@ -1,6 +1,6 @@
-// Replays a recorded night: standard input holds records of a 4-byte length and the most bytes of a message, unused ones ignored. A
-// controller starts fresh over 1,024 zero words and serves each; a line for each says how many words it sent, or its refusal, and
-// the last line the stored tag.
+// Replays a recorded night: standard input holds records of a 4-byte length and the most bytes of a message, unused
+// ones ignored. A controller starts fresh over 1,024 zero words and serves each; a line for each says how many words it
+// sent, or its refusal, and the last line the stored tag.
 use completer::serving;
 use header::limits;
 use header::refusal::Refusal;

@@ -1,5 +1,6 @@
-// Runs the sender into every refusal 30 to 38, takes an answer, starts from discoveries' answers, and reads an outcome with an Error
-// in the middle, on the real functions; prints what each call gave: its refusal, 0 for none, and the sender then.
+// Runs the sender into every refusal 30 to 38, takes an answer, starts from discoveries' answers, and reads an outcome
+// with an Error in the middle, on the real functions; prints what each call gave: its refusal, 0 for none, and the
+// sender then.
 use initiator::outcome;
 use initiator::outcome::Ending;
 use initiator::sender;

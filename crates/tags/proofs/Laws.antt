@@ -1,3 +1,3 @@
--- Laws of the crate `tags` that belong to no one function; the crates above cite them.
-pub mod Records
+-- The laws of the crate `tags`: its promises, and what the crates above cite.
+pub mod Record
 pub mod Worked

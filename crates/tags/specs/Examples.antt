@@ -29,7 +29,8 @@ pub record MarksShown : Type 0 where
   pub first : markOf (holding 0 1) ≡ 16
   pub last : markOf (holding 15 1) ≡ 31
 
--- byte 0 of writes of tag 0, 1, 2, 14 and 15, and of a discovery of tag 2, against a stored tag: "Stored tag 15: tag 0 is new"
+-- byte 0 of writes of tag 0, 1, 2, 14 and 15, and of a discovery of tag 2, against a stored tag: "Stored tag 15: tag 0
+-- is new"
 pub record RulesShown : Type 0 where
   pub fresh : ruleOf freshRecord 0x12 ≡ New
   pub again : ruleOf (holding 0 1) 0x10 ≡ Repeat

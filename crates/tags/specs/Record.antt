@@ -3,7 +3,7 @@ use Prim.Native.Nat.{ℕ, _+_}
 use mathlib.Core.Bool.{Bool, true, false, cond}
 use lib.Dec.{ltb, leb}
 use Rattle.header.specs.Header.{tagOf}
-use Rattle.header.specs.Limits.{limit}
+use Rattle.header.specs.Limits.{limit, tagCount}
 use Rattle.tags.specs.declared.record.TagRecord.{TagRecord}
 
 -- "The record says: no tag (fresh), or a tag and the length of the stored answer"
@@ -22,9 +22,10 @@ markOf tags = cond (isFresh tags) 0 (tags .tag + 16)
 abbrev pub mostMemory : ℕ
 mostMemory = 16384
 
--- 1, record and stored answer: "stored answer .. has a forbidden length, or the record is not fresh and not (tag 0 to 15, length 1 to" the limit)
+-- 1, record and stored answer: "stored answer .. has a forbidden length, or the record is not fresh and not (tag 0 to
+-- 15, length 1 to" the limit)
 unfoldable pub heldOk : ℕ → ℕ → Bool
-heldOk tag words = cond (leb 16 tag) false (cond (ltb words 1) false (leb words limit))
+heldOk tag words = cond (leb tagCount tag) false (cond (ltb words 1) false (leb words limit))
 
 unfoldable pub recordOk : TagRecord → Bool
 recordOk tags = cond (isFresh tags) true (heldOk (tags .tag) (tags .words))

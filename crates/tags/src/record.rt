@@ -47,7 +47,7 @@ pub fn mark(tags: TagRecord) -> u32
 fn held_ok(tag: u32, words: usize) -> bool
     ensures { λ r. ⌜ r ≡ heldOk tag words ⌝ }
 {
-    if tag >= 16 {
+    if tag >= limits::TAGS {
         return false;
     }
     if words < 1 {

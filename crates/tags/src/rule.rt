@@ -50,8 +50,5 @@ pub fn rule(tags: TagRecord, byte0: u32) -> Verdict
     if expected(tags, tag) {
         return Verdict::New;
     }
-    Verdict::Refused(Refusal {
-        number: Refusal::OUT_OF_STEP,
-        at: 0,
-    })
+    Verdict::Refused(Refusal::of(Refusal::OUT_OF_STEP))
 }

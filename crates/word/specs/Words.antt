@@ -1,4 +1,5 @@
--- Words in bytes and runs in lists. Every contract of the project that reads or writes a word cites these. Assumes nothing.
+-- Words in bytes and runs in lists. Every contract of the project that reads or writes a word cites these. Assumes
+-- nothing.
 use Prim.Native.Nat.{ℕ, _+_, _*_, _/_, _%_, _<_}
 use mathlib.Core.List.{List, [], _∷_, _++_}
 use lib.ListN.{length, take, drop}

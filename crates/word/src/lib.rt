@@ -11,8 +11,9 @@ ghost use Rattle.word.specs.Words.{wordsOf, putWords};
 ghost use Rattle.word.specs.Enables.{merged};
 
 // A byte as a number.
-pub fn wide(x: u8) -> u32
-    ensures { λ r. ⌜ (r ≡ x) × (r < 256) ⌝ }
+pub fn from_byte(x: u8) -> u32
+    ensures { λ r. ⌜ r ≡ x ⌝ }
+    ensures below { λ r. ⌜ r < 256 ⌝ }
 {
     x as u32
 }
@@ -23,7 +24,10 @@ pub fn word_at(b: &[u8], i: usize) -> u32
     ensures { λ r. ⌜ r ≡ getD (wordsOf (now (b .entry))) i 0 ⌝ }
 {
     let at = 4 * i;
-    wide(b[at]) + 256 * wide(b[at + 1]) + 65536 * wide(b[at + 2]) + 16777216 * wide(b[at + 3])
+    from_byte(b[at])
+        + 256 * from_byte(b[at + 1])
+        + 65536 * from_byte(b[at + 2])
+        + 16777216 * from_byte(b[at + 3])
 }
 
 // Makes w word i of the bytes out. Every other byte stays.
@@ -38,8 +42,9 @@ pub fn put_word(out: &mut [u8], i: usize, w: u32)
     out[at + 3] = (w / 16777216 % 256) as u8;
 }
 
-// The bits of a word that the enables cover: ones merged into zeros. The product has a copy of the four enables every 7 bits, so
-// that bit i stands lowest in byte i. Each byte is then 0 or 1; with 0x7F added 0x7F or 0x80, which differ from 0x7F by 0 or 0xFF.
+// The bits of a word that the enables cover: ones merged into zeros. The product has a copy of the four enables every 7
+// bits, so that bit i stands lowest in byte i. Each byte is then 0 or 1; with 0x7F added 0x7F or 0x80, which differ
+// from 0x7F by 0 or 0xFF.
 fn covered(enables: u32) -> u32
     ensures { λ r. ⌜ r ≡ merged 0 0xFFFF_FFFF enables ⌝ }
 {
@@ -47,8 +52,8 @@ fn covered(enables: u32) -> u32
     (lowest + 0x7F7F_7F7F) ^ 0x7F7F_7F7F
 }
 
-// The old word with the enabled bytes of the new one: bit i of enables covers byte i, and bits 4 and up cover none. A whole word,
-// which most are, is asked for first: it waits for no byte of the old one.
+// The old word with the enabled bytes of the new one: bit i of enables covers byte i, and bits 4 and up cover none. A
+// whole word, which most are, is asked for first: it waits for no byte of the old one.
 pub fn merge(old: u32, new: u32, enables: u32) -> u32
     ensures { λ r. ⌜ r ≡ merged old new enables ⌝ }
 {

@@ -1,7 +1,7 @@
 // Runs of words: into bytes, out of bytes, and from words to words.
 //
-// Each copy goes by way of a local array, which the compiler drops: a loop into it and a loop out of it become one memmove,
-// where a loop from slice to slice stays a loop with a test for overlap.
+// Each copy goes by way of a local array, which the compiler drops: a loop into it and a loop out of it become one
+// memmove, where a loop from slice to slice stays a loop with a test for overlap.
 ghost use mathlib.Core.Path.{_≡_};
 ghost use Prim.Native.Nat.{_+_, _*_, _≤_};
 ghost use lib.ListN.{length, take, drop};
@@ -12,7 +12,8 @@ pub const LONGEST: usize = 4096;
 
 // The first n words of src, to dst from index `to` on.
 fn paste(dst: &mut [u32], to: usize, src: &[u32], n: usize)
-    requires { ⌜ (n ≤ length (now src)) × (to + n ≤ length (now dst)) ⌝ }
+    requires { ⌜ n ≤ length (now src) ⌝ }
+    requires { ⌜ to + n ≤ length (now dst) ⌝ }
     ensures { λ _. ⌜ now (dst .exit) ≡ put (now (dst .entry)) to (take n (now (src .entry))) ⌝ }
 {
     let mut i = 0;
@@ -24,7 +25,8 @@ fn paste(dst: &mut [u32], to: usize, src: &[u32], n: usize)
 
 // The first n words of src, to the bytes out from word `to` on.
 fn spread(out: &mut [u8], to: usize, src: &[u32], n: usize)
-    requires { ⌜ (n ≤ length (now src)) × (4 * (to + n) ≤ length (now out)) ⌝ }
+    requires { ⌜ n ≤ length (now src) ⌝ }
+    requires { ⌜ 4 * (to + n) ≤ length (now out) ⌝ }
     ensures { λ _. ⌜ now (out .exit) ≡ putWords (now (out .entry)) to (take n (now (src .entry))) ⌝ }
 {
     let mut i = 0;
@@ -36,7 +38,8 @@ fn spread(out: &mut [u8], to: usize, src: &[u32], n: usize)
 
 // n words of the bytes b from word `from` on, to the front of dst.
 fn gather(dst: &mut [u32], b: &[u8], from: usize, n: usize)
-    requires { ⌜ (4 * (from + n) ≤ length (now b)) × (n ≤ length (now dst)) ⌝ }
+    requires { ⌜ 4 * (from + n) ≤ length (now b) ⌝ }
+    requires { ⌜ n ≤ length (now dst) ⌝ }
     ensures { λ _. ⌜ now (dst .exit) ≡ put (now (dst .entry)) 0 (take n (drop from (wordsOf (now (b .entry))))) ⌝ }
 {
     let mut i = 0;
@@ -48,7 +51,8 @@ fn gather(dst: &mut [u32], b: &[u8], from: usize, n: usize)
 
 // All of src, to the bytes out from word `to` on. Every other byte stays.
 pub fn put_words(out: &mut [u8], to: usize, src: &[u32])
-    requires { ⌜ (length (now src) ≤ longest) × (4 * (to + length (now src)) ≤ length (now out)) ⌝ }
+    requires { ⌜ length (now src) ≤ longest ⌝ }
+    requires { ⌜ 4 * (to + length (now src)) ≤ length (now out) ⌝ }
     ensures { λ _. ⌜ now (out .exit) ≡ putWords (now (out .entry)) to (now (src .entry)) ⌝ }
 {
     let n = src.len();
@@ -59,7 +63,9 @@ pub fn put_words(out: &mut [u8], to: usize, src: &[u32])
 
 // n words of the bytes b from word `from` on, to dst from index `to` on. Every other word of dst stays.
 pub fn get_words(dst: &mut [u32], to: usize, b: &[u8], from: usize, n: usize)
-    requires { ⌜ (n ≤ longest) × (4 * (from + n) ≤ length (now b)) × (to + n ≤ length (now dst)) ⌝ }
+    requires { ⌜ (n ≤ longest)
+        × (4 * (from + n) ≤ length (now b))
+        × (to + n ≤ length (now dst)) ⌝ }
     ensures { λ _. ⌜ now (dst .exit) ≡ put (now (dst .entry)) to (take n (drop from (wordsOf (now (b .entry))))) ⌝ }
 {
     let mut stage = [0u32; LONGEST];
@@ -69,7 +75,8 @@ pub fn get_words(dst: &mut [u32], to: usize, b: &[u8], from: usize, n: usize)
 
 // All of src, to dst from index `to` on. Every other word of dst stays.
 pub fn copy_words(dst: &mut [u32], to: usize, src: &[u32])
-    requires { ⌜ (length (now src) ≤ longest) × (to + length (now src) ≤ length (now dst)) ⌝ }
+    requires { ⌜ length (now src) ≤ longest ⌝ }
+    requires { ⌜ to + length (now src) ≤ length (now dst) ⌝ }
     ensures { λ _. ⌜ now (dst .exit) ≡ put (now (dst .entry)) to (now (src .entry)) ⌝ }
 {
     let n = src.len();

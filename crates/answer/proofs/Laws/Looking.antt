@@ -11,19 +11,19 @@ use lib.ListN.{length, getD, take, drop, length-drop, drop-of-length-le}
 use lib.Seq.{drop-cons, drop-drop, length-take-le}
 use Rattle.word.specs.Words.{wordsOf}
 use Rattle.header.specs.Header.{countOf, lastOf, byte1Of}
-use Rattle.header.specs.Refusal.{refusedAt, refusal}
+use Rattle.header.specs.Refusal.{refusedAt, refusal, unless}
 use Rattle.header.specs.Limits.{lengthOk}
-use Rattle.message.specs.Request.{Command, Request, Reading, Wrong, Means, before, none}
+use Rattle.message.specs.Request.{Command, Request, Reading, Refused, Means, before, none}
 use Rattle.message.proofs.Laws.Faults.{past}
 use Rattle.answer.specs.declared.Seen.{Seen}
 use Rattle.answer.specs.declared.Look.{Look}
-use Rattle.answer.specs.declared.Look.the-variants.{Item, Bad}
-use Rattle.answer.specs.Answer.{Answered, statusNo, answerByte, wanted, answerFault, seenOf, lookOn, lookAt, lookTurn, answersFrom, judge}
-use Rattle.answer.proofs.Laws.Answers.{stops-clear, fair}
+use Rattle.answer.specs.declared.Look.the-variants.{Item, Refused as RefusedLook}
+use Rattle.answer.specs.Answer.{Answered, statusNo, answerByte, wanted, answerFault, seenOf, lookOn, lookAt, lookTurn, answersFrom, headFault, judge}
+use Rattle.answer.proofs.Laws.Heads.{stops-clear, fair}
 
 -- a look whose words behind it answer the same
 look-same : (l : Look) (rest : List ℕ) (f g : ℕ → Reading (List Answered)) → ((n : ℕ) → f n ≡ g n) → lookTurn l rest f ≡ lookTurn l rest g
-look-same (Bad r) rest f g h = refl
+look-same (RefusedLook r) rest f g h = refl
 look-same (Item s) rest f g h = rw (h (s .count))
 
 -- the answer to the next command, at its position
@@ -35,7 +35,7 @@ looked byte0 c cs ws at = go (ltb at (length ws)) refl
   where
     go : (b : Bool) → ltb at (length ws) ≡ b
         → answersFrom byte0 at (c ∷ cs) (drop at ws)
-        ≡ lookTurn (cond b (lookOn byte0 (c .count) (none cs) at (getD ws at 0) (length ws - at - 1)) (Bad (refusedAt 35 at))) (drop (at + 1) ws) (λ n. answersFrom byte0 (at + 1 + n) cs (drop (at + 1 + n) ws))
+        ≡ lookTurn (cond b (lookOn byte0 (c .count) (none cs) at (getD ws at 0) (length ws - at - 1)) (RefusedLook (refusedAt 35 at))) (drop (at + 1) ws) (λ n. answersFrom byte0 (at + 1 + n) cs (drop (at + 1 + n) ws))
     go false z = rw (drop-of-length-le ws (ltb-false at (length ws) z))
     go true z =
         let l = ltb-true at (length ws) z in
@@ -58,7 +58,7 @@ unfolding lookAt lookOn seenOf
 found byte0 count last ws at s e = go (ltb at (length ws)) refl (eqb (answerFault byte0 count last (getD ws at 0) (length ws - at - 1)) 0) refl e
   where
     go : (a : Bool) → ltb at (length ws) ≡ a → (b : Bool) → eqb (answerFault byte0 count last (getD ws at 0) (length ws - at - 1)) 0 ≡ b
-        → cond a (cond b (Item (seenOf (getD ws at 0))) (Bad (refusedAt (answerFault byte0 count last (getD ws at 0) (length ws - at - 1)) at))) (Bad (refusedAt 35 at)) ≡ Item s
+        → cond a (cond b (Item (seenOf (getD ws at 0))) (RefusedLook (refusedAt (answerFault byte0 count last (getD ws at 0) (length ws - at - 1)) at))) (RefusedLook (refusedAt 35 at)) ≡ Item s
         → Found byte0 count last ws at s
     go false z b y e = let n : _≡_ {A = ℕ} 0 1 = cc in absurd (omega arith)
     go true z false y e = let n : _≡_ {A = ℕ} 0 1 = cc in absurd (omega arith)
@@ -79,7 +79,7 @@ found byte0 count last ws at s e = go (ltb at (length ws)) refl (eqb (answerFaul
         }
 
 -- a judged answer by its length and its byte 0
-pub judge-long : (r : Request) (dg : List ℕ) → lengthOk (length dg) ≡ false → judge r dg ≡ Wrong (refusal 32)
+pub judge-long : (r : Request) (dg : List ℕ) → lengthOk (length dg) ≡ false → judge r dg ≡ Refused (refusal 32)
 unfolding judge
 judge-long r dg e = rw e
 
@@ -89,11 +89,11 @@ judge-whole r dg l e = rw (l, eq-eqb _ _ e)
 
 -- no refusal of an answer is 0
 abbrev pub Some : {A : Type 0} → Reading A → Type 0
-Some (Wrong r) = 0 < r .number
+Some (Refused r) = 0 < r .number
 Some (Means a) = Unit {0}
 
 some-before : {A : Type 0} (a : A) (p : Reading (List A)) → Some p → Some (before a p)
-some-before a (Wrong r) h = h
+some-before a (Refused r) h = h
 some-before a (Means x) h = tt
 
 some-last : {A : Type 0} (b : Bool) (x : A) (p : Reading A) → Some p → Some (cond b (Means x) p)
@@ -107,11 +107,11 @@ answers-some byte0 at (c ∷ cs) [] = omega arith
 answers-some byte0 at (c ∷ cs) (h ∷ rest) = go (λ n. answers-some byte0 (at + 1 + n) cs (drop n rest)) (eqb (answerFault byte0 (c .count) (none cs) h (length rest)) 0) refl
   where
     go : ((n : ℕ) → Some (answersFrom byte0 (at + 1 + n) cs (drop n rest))) → (b : Bool) → eqb (answerFault byte0 (c .count) (none cs) h (length rest)) 0 ≡ b
-        → Some (lookTurn (cond b (Item (seenOf h)) (Bad (refusedAt (answerFault byte0 (c .count) (none cs) h (length rest)) at))) rest (λ n. answersFrom byte0 (at + 1 + n) cs (drop n rest)))
+        → Some (lookTurn (cond b (Item (seenOf h)) (RefusedLook (refusedAt (answerFault byte0 (c .count) (none cs) h (length rest)) at))) rest (λ n. answersFrom byte0 (at + 1 + n) cs (drop n rest)))
     go ih false z = let n = eqb-false (answerFault byte0 (c .count) (none cs) h (length rest)) 0 z in omega arith
     go ih true z = some-last (lastOf h) _ _ (some-before _ (answersFrom byte0 (at + 1 + countOf h) cs (drop (countOf h) rest)) (ih (countOf h)))
 
-some-unless : {A : Type 0} (b : Bool) (n : ℕ) (p : Reading A) → 0 < n → Some p → Some (cond b p (Wrong (refusal n)))
+some-unless : {A : Type 0} (b : Bool) (n : ℕ) (p : Reading A) → 0 < n → Some p → Some (cond b p (Refused (refusal n)))
 some-unless true n p h s = s
 some-unless false n p h s = h
 
@@ -125,3 +125,36 @@ judge-some r dg =
 pub judge-first : (r : Request) (dg : List ℕ) (items : List Answered) → judge r dg ≡ Means items → getD dg 0 0 ≡ answerByte (r .byte0)
 unfolding judge
 judge-first r dg items m = eqb-true _ _ (past (eqb (getD dg 0 0) (answerByte (r .byte0))) _ _ (past (lengthOk (length dg)) _ _ m .1) .0)
+
+-- 32 and 33 by the head: refused as it says, else header by header
+module _ (r : Request) (dg : List ℕ) where
+  record Head (byte0 : ℕ) : Type 0 where
+    long : lengthOk (length dg) ≡ true
+    first : getD dg 0 0 ≡ answerByte byte0
+
+  head-passed : (byte0 : ℕ) → headFault byte0 dg .number ≡ 0 → Head byte0
+  unfolding headFault
+  head-passed byte0 e = go (lengthOk (length dg)) refl (eqb (getD dg 0 0) (answerByte byte0)) refl e
+    where
+      go : (a : Bool) → lengthOk (length dg) ≡ a → (b : Bool) → eqb (getD dg 0 0) (answerByte byte0) ≡ b
+          → unless a (refusal 32) (unless b (refusal 33) (refusal 0)) .number ≡ 0 → Head byte0
+      go false l b f x = absurd (omega arith)
+      go true l false f x = absurd (omega arith)
+      go true l true f x = record { long = l; first = eqb-true _ _ f }
+
+  pub judge-passed : headFault (r .byte0) dg .number ≡ 0 → judge r dg ≡ answersFrom (r .byte0) 0 (r .commands) (wordsOf dg)
+  judge-passed e = let h = head-passed (r .byte0) e in judge-whole r dg (h .long) (h .first)
+
+  pub passed-long : (byte0 : ℕ) → headFault byte0 dg .number ≡ 0 → lengthOk (length dg) ≡ true
+  passed-long byte0 e = head-passed byte0 e .long
+
+  pub judge-refused : (headFault (r .byte0) dg .number ≡ 0 → ⊥) → judge r dg ≡ Refused (headFault (r .byte0) dg)
+  unfolding judge headFault
+  judge-refused n = go (lengthOk (length dg)) (eqb (getD dg 0 0) (answerByte (r .byte0))) n
+    where
+      go : (a b : Bool) → (unless a (refusal 32) (unless b (refusal 33) (refusal 0)) .number ≡ 0 → ⊥)
+          → cond a (cond b (answersFrom (r .byte0) 0 (r .commands) (wordsOf dg)) (Refused (refusal 33))) (Refused (refusal 32))
+          ≡ Refused (unless a (refusal 32) (unless b (refusal 33) (refusal 0)))
+      go false b n = refl
+      go true false n = refl
+      go true true n = absurd (n refl)

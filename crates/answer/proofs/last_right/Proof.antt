@@ -1,5 +1,5 @@
 -- `answer::last_right` meets its contract: one flag beside another. Assumes nothing.
-use Rattle.answer.proofs.Laws.Answers.{beq-set}
+use Rattle.answer.proofs.Laws.Heads.{beq-set}
 use mathlib.Core.Path.{sym, _∙_}
 use borrow.Author.Needs.{needs}
 use Rattle.answer.proofs.last_right.Statement.{statement}

@@ -1,7 +1,7 @@
 -- `answer::status_no` meets its contract: each arm is a case of `statusNo`. Assumes nothing.
 use borrow.Author.Needs.{needs}
 use Rattle.answer.specs.Answer.{statusNo}
-use Rattle.answer.proofs.Laws.Answers.{status-rest}
+use Rattle.answer.proofs.Laws.Heads.{status-rest}
 use Rattle.answer.proofs.status_no.Statement.{statement}
 use Rattle.answer.proofs.status_no.Tie as tie
 

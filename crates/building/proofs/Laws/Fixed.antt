@@ -12,7 +12,7 @@ use Rattle.header.specs.declared.Kind.the-variants.{Nop}
 use Rattle.header.specs.Limits.{limitBytes}
 use Rattle.header.specs.Header.{kindOf}
 use Rattle.header.specs.Refusal.{refusal}
-use Rattle.header.proofs.Laws.Headers.{kind-number}
+use Rattle.header.proofs.Laws.Header.{kind-number}
 use Rattle.message.specs.Request.{commandWords, written}
 use Rattle.message.specs.Discovery.{discoveryByte, discoveryData, discoveryCommand, discoveryBytes}
 use Rattle.message.proofs.Laws.Fixed.{discovery-byte, discovery-kind, discovery-long, same-discovery}

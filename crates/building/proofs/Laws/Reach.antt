@@ -24,9 +24,9 @@ use Rattle.building.specs.Record.{startOk, byte0By, freshOk, someOk, rea
 use Rattle.building.specs.Asked.{countBy, countFits, fieldsOk, enablesFit, addressFits, narrowOk, sizeBy, replyBy, roomFits, commandFault}
 use Rattle.building.specs.Build.{gives, longOk, opened, begun, addFault, closeFault, grown, shut, added, closed}
 use Rattle.building.specs.Reach.{Reached, begins, adds, closes, ReachedExactly}
-use Rattle.building.proofs.Laws.Passed.{both, unrefused, reached-some, Adds, Closes}
-use Rattle.building.proofs.Laws.Passed as passed
-use Rattle.building.proofs.Laws.Shapes.{size, reply, Allowed, Steps, start, more, Some, None, Open, on-some, back, shape-ok, ok-shape}
+use Rattle.building.proofs.Inner.Passed.{both, unrefused, reached-some, Adds, Closes}
+use Rattle.building.proofs.Inner.Passed as passed
+use Rattle.building.proofs.Inner.Shapes.{size, reply, Allowed, Steps, start, more, Some, None, Open, on-some, back, shape-ok, ok-shape}
 
 -- a record's numbers, in the words of the formula
 abbrev Numbers : Building → Type 0

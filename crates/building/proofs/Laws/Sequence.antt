@@ -14,10 +14,10 @@ use Rattle.header.specs.declared.Kind.the-variants.{Nop, Write, Read, Response}
 use Rattle.header.specs.Limits.{limit, limitBytes}
 use Rattle.header.specs.Header.{kindOf, wideOf, addressWords, dataWords, headerFrom}
 use Rattle.header.specs.Refusal.{refusedAt, refusal}
-use Rattle.header.proofs.Laws.Headers.{byte0-lt}
-use Rattle.header.proofs.Laws.Headers.{header-last, header-low}
+use Rattle.header.proofs.Laws.Header.{byte0-lt}
+use Rattle.header.proofs.Laws.Header.{header-last, header-low}
 use Rattle.message.specs.Faults.{enablesOk}
-use Rattle.message.specs.Request.{Command, Request, Wrong, none, written, replies, commandWords, requestWords, All, FitsCommand, Fits}
+use Rattle.message.specs.Request.{Command, Request, Refused, none, written, replies, commandWords, requestWords, All, FitsCommand, Fits}
 use Rattle.message.specs.Address.{addressIn}
 use Rattle.message.specs.Exactly.{openWords}
 use Rattle.message.proofs.Laws.Round.{command-long, read-written}
@@ -26,13 +26,13 @@ use Rattle.message.proofs.Laws.Pieces.{command-pieces, written-is, open-more, r
 use Rattle.building.specs.declared.record.Building.{Building}
 use Rattle.building.specs.declared.asked.Asked.{Asked}
 use Rattle.building.specs.Record.{startOk, byte0By}
-use Rattle.building.specs.Asked.{countBy, byte1By, addressSent, carriedBy, commandBy, enablesFit, sizeBy, replyBy}
+use Rattle.building.specs.Asked.{countBy, byte1By, addressSent, dataSent, commandBy, enablesFit, sizeBy, replyBy}
 use Rattle.building.specs.Build.{gives, longOk, opened, begun, addFault, closeFault, grown, shut, lastSet, added, addedTo, closed, closedTo}
 use Rattle.building.specs.Reach.{Lent}
-use Rattle.building.specs.Sequence.{Adding, begins, adds, sent, Holds, BuiltIsRead, OpenIsRefused}
-use Rattle.building.proofs.Laws.Passed as passed
-use Rattle.building.proofs.Laws.Passed.{both, unrefused, Adds, Fitting, start-tag, fields-lt}
-use Rattle.building.proofs.Laws.Calls.{address-top}
+use Rattle.building.specs.Sequence.{Adding, begins, adds, builtBytes, Holds, BuiltIsRead, OpenIsRefused}
+use Rattle.building.proofs.Inner.Passed as passed
+use Rattle.building.proofs.Inner.Passed.{both, unrefused, Adds, Fitting, start-tag, fields-lt}
+use Rattle.building.proofs.Inner.Placing.{address-top}
 
 -- what an add that was not refused gives
 record Took (out : List ℕ) (b : Building) (asked : Asked) (payload : List ℕ) : Type 0 where
@@ -62,13 +62,13 @@ byte1-fits Write count asked e =
     let l : (asked .first + 16 * asked .last) / 16 ≡ asked .last = omega arith in
     (omega arith, rw (f, l) (h .2))
 
-carried-long : (k : Kind) (count : ℕ) (payload : List ℕ) → length (carriedBy k payload) ≡ dataWords k (countBy k count (length payload))
+carried-long : (k : Kind) (count : ℕ) (payload : List ℕ) → length (dataSent k payload) ≡ dataWords k (countBy k count (length payload))
 carried-long Nop count payload = refl
 carried-long Write count payload = refl
 carried-long Read count payload = refl
 carried-long Response count payload = refl
 
-carried-words : (k : Kind) (payload : List ℕ) → Words payload → Words (carriedBy k payload)
+carried-words : (k : Kind) (payload : List ℕ) → Words payload → Words (dataSent k payload)
 carried-words Nop payload h = h
 carried-words Write payload h = h
 carried-words Read payload h = below-take 4294967296 0 payload h
@@ -254,7 +254,7 @@ module _ {start : List ℕ} {cs : List Command} {b : Building} {out : List ℕ} 
       let k = shuts out₁ b₁ z in
       let w : closed out₁ b₁ .building .words ≡ length (requestWords byte0 cs') = rw (k .building, p) (sym made-words) in
       let o : closedTo out₁ b₁ ≡ putWords start 0 (requestWords byte0 cs') = k .output ∙ rw (q, p) made-bytes in
-      let f : sent (closed out₁ b₁ .building) (closedTo out₁ b₁) ≡ written made = rw (w, o) (words-front start (requestWords byte0 cs') ∙ written-is byte0 cs') in
+      let f : builtBytes (closed out₁ b₁ .building) (closedTo out₁ b₁) ≡ written made = rw (w, o) (words-front start (requestWords byte0 cs') ∙ written-is byte0 cs') in
       rw (ap byte0By p ∙ grown-byte b count)
       (record {
         bytes = f;
@@ -268,14 +268,14 @@ stands {start} (begins kind tag wide discovery e) = stands-first start kind tag 
 stands (adds s asked payload l e) = stands-more (stands s) asked payload l e
 
 -- not closed: 2 with nothing added, else 3 behind its words
-open-read : {start : List ℕ} {cs : List Command} {b : Building} {out : List ℕ} → Stands start cs b out → sent b out ≡ bytesOf (openWords (byte0By b) cs)
+open-read : {start : List ℕ} {cs : List Command} {b : Building} {out : List ℕ} → Stands start cs b out → builtBytes b out ≡ bytesOf (openWords (byte0By b) cs)
 open-read {start} {cs} {b} s = rw (s .is) (ap (λ (n : ℕ). take (4 * n) (putWords start 0 (openWords (byte0By b) cs))) (s .words) ∙ words-front start (openWords (byte0By b) cs))
 
 pub open-is-refused : OpenIsRefused
 open-is-refused start cs b out go =
     let s = stands go in
     rw (open-read s)
-    (open-refused (byte0By b) (tag-byte b (s .tag)) cs (s .all) (omega (arith, s .words, s .most)) ∙ ap (λ (n : ℕ). Wrong (cond (none cs) (refusal 2) (refusedAt 3 n))) (sym (s .words)))
+    (open-refused (byte0By b) (tag-byte b (s .tag)) cs (s .all) (omega (arith, s .words, s .most)) ∙ ap (λ (n : ℕ). Refused (cond (none cs) (refusal 2) (refusedAt 3 n))) (sym (s .words)))
 
 -- closed: what is built is what is read
 pub built-is-read : BuiltIsRead

@@ -5,7 +5,7 @@ use Rattle.word.specs.Enables.{byteOf, bitOf, ofBytes, merged}
 use Rattle.header.specs.Header.{kindNo, byte0From, headerFrom, headOf}
 use Rattle.header.specs.Limits.{lengthOk}
 use Rattle.message.specs.Faults.{patternOk, faultOf}
-use Rattle.message.specs.Walk.{stepOn, commandOf, commandsFrom, ended, read, asked}
+use Rattle.message.specs.Walk.{stepOn, commandOf, commandsFrom, ended, read, requestOf}
 use Rattle.message.specs.Address.{addressFrom}
 use Rattle.message.specs.Request.{replies}
 use Rattle.answer.specs.Answer.{answerByte, answeredWords, answerWords}
@@ -13,10 +13,10 @@ use Rattle.memory.specs.Moves.{outside, fetches, storesBehind, stores, moves, a
 use Rattle.carrying.specs.Answers.{answerOf, answers, answerTo, wordsTo}
 use Rattle.tags.specs.Rule.{repeats, expected, ruleOf}
 use Rattle.tags.specs.Record.{markOf, heldOk, recordOk, keptOk}
-use Rattle.completer.specs.Verdict.{lentOk, verdictOf}
+use Rattle.completer.specs.Verdict.{lentOk, verdictBy}
 use Rattle.completer.specs.Serving.{answerBy, after}
 use Rattle.completer.specs.BenchSheet.{plays, same, sameRecord, benchStart, right, every, benchSheet, BenchHolds}
 
 pub benched : BenchHolds
-unfolding wordsOf bytesOf put putWords byteOf bitOf ofBytes merged kindNo byte0From headerFrom headOf patternOk faultOf stepOn addressFrom commandOf commandsFrom replies ended lengthOk read answerByte answeredWords answerWords outside fetches storesBehind stores moves afterMoves memoryAfter answerOf answers answerTo wordsTo asked repeats expected markOf lentOk heldOk recordOk keptOk ruleOf verdictOf answerBy after plays same sameRecord benchStart right every benchSheet
+unfolding wordsOf bytesOf put putWords byteOf bitOf ofBytes merged kindNo byte0From headerFrom headOf patternOk faultOf stepOn addressFrom commandOf commandsFrom replies ended lengthOk read answerByte answeredWords answerWords outside fetches storesBehind stores moves afterMoves memoryAfter answerOf answers answerTo wordsTo requestOf repeats expected markOf lentOk heldOk recordOk keptOk ruleOf verdictBy answerBy after plays same sameRecord benchStart right every benchSheet
 benched = refl

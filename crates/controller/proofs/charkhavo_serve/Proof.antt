@@ -46,7 +46,8 @@ use denote.Exit.{yes}
 use denote.Signature.{plain}
 use Rattle.tags.specs.declared.record.TagRecord.{TagRecord}
 use Rattle.completer.specs.declared.serving.Served.{Served}
-use Rattle.completer.specs.Serving.{Serves}
+use Rattle.completer.specs.Controller.{lent, left}
+use Rattle.completer.specs.Serving.{after}
 use Rattle.tags.proofs.record.TagRecord as T
 use Rattle.tags.proofs.record.TagRecord.Laws as T′
 use Rattle.completer.proofs.serving.Served as S
@@ -56,7 +57,6 @@ use Rattle.completer.proofs.serving.serve.Symbol as serve-def
 use Rattle.completer.proofs.serving.serve.Symbol.{name as #serve}
 use Rattle.completer.proofs.serving.serve.Met as serve-thm
 use Rattle.controller.specs.declared.Sent.{Sent}
-use Rattle.controller.specs.InPlace.{ServesInPlace}
 use Rattle.controller.proofs.Sent as R
 use Rattle.controller.proofs.Sent.Laws as R′
 use Rattle.controller.proofs.charkhavo_serve.Key.{name as #charkhavo-serve}
@@ -120,21 +120,21 @@ module _ {M : Type 1} (𝓤 : URA M) (H : Heap 𝓤) (A : Atoms 𝓤) (W : Given
   to = ((κs′, (q₀, (q₁, (q₂, (q₄, tt)))), tt, a′, (slice m ∷ [], (slice s ∷ [], (slice o ∷ [], (tags-val h ∷ [], (slice d ∷ [], tt)))))), tt)
 
   abbrev Says : Served → List ℕ → List ℕ → List ℕ → Type 0
-  Says r ms ss os = Serves (now m) (now s) (now o) h (now d) r ms ss os
+  Says r ms ss os = left (r .refusal) (r .sent) (lent ms ss (r .tags)) os ≡ after (lent (now m) (now s) h) (now o) (now d)
 
   -- what the datagram's `&` owns
   abbrev Own : Fml
   Own = ShrSlice (named 4) κ₄ u8 .own d (slice d ∷ [])
 
-  abbrev lent : List (Item 𝓤)
-  lent =
+  abbrev lent-items : List (Item 𝓤)
+  lent-items =
       ‵ (flft κ₀ q₀) ∷ ‵ (flft κ₁ q₁) ∷ ‵ (flft κ₂ q₂) ∷ ‵ (flft κ₄ q₄) ∷ ‵ ftrue
       ∷ ‵ (MutSlice (named 0) κ₀ u32 .own m (slice m ∷ [])) ∷ ‵ (MutSlice (named 1) κ₁ u32 .own s (slice s ∷ [])) ∷ ‵ (MutSlice (named 2) κ₂ u8 .own o (slice o ∷ []))
       ∷ ‵ Own ∷ []
 
-  goes : Is T.the-row h (tags-val h ∷ []) → ent 𝓤 (⋆ 𝓤 H A lent) (Serve 𝓤 H A at-mem run .pre to)
+  goes : Is T.the-row h (tags-val h ∷ []) → ent 𝓤 (⋆ 𝓤 H A lent-items) (Serve 𝓤 H A at-mem run .pre to)
   goes was =
-      qed W lent ∵
+      qed W lent-items ∵
       group ! 5 $ nothing ! $ move ! (5 ∷ 0 ∷ []) $ fjoin ! $ owned ! T.the-row (Is T.the-row) ((LL.makes T.the-type T′.the-plain) 𝓤 H A) h _ was $ fjoin ! $
       -- [the record and datagram; the tokens; memory; stored; output]
       move ! (4 ∷ 0 ∷ []) $ fjoin ! $ move ! (3 ∷ 0 ∷ []) $ fjoin ! $ move ! (2 ∷ 0 ∷ []) $ fjoin ! $ move ! (1 ∷ 0 ∷ []) $ join ! $ frame ! $ done !
@@ -153,31 +153,24 @@ module _ {M : Type 1} (𝓤 : URA M) (H : Heap 𝓤) (A : Atoms 𝓤) (W : Given
   tags-is r w is = LL.owed S.the-type S′.the-laws r _ is .1 .1 .0
 
   -- 5. The promise: what `serve` says of its result and the slices is what the call in place says of them and of the record.
-  in-place : {r : Served} {ms ss os : List ℕ} → Says r ms ss os → ServesInPlace (now m) (now s) (now o) h (now d) (sent r) ms ss os (r .tags)
-  in-place e =
-      record {
-        refusal = ap (λ x. x .refusal) (e .served);
-        sent = ap (λ x. x .sent) (e .served);
-        memory = e .memory;
-        stored = e .stored;
-        output = e .output;
-        held = ap (λ x. x .tags) (e .served);
-      }
+  in-place : {r : Served} {ms ss os : List ℕ} → Says r ms ss os
+      → left (sent r .refusal) (sent r .sent) (lent ms ss (r .tags)) os ≡ after (lent (now m) (now s) h) (now o) (now d)
+  in-place e = e
 
   -- 6. The exit: the tokens, the slices' last lists ms, ss, os, the record's borrow at its last value, the datagram.
   abbrev Post : Val → SProp 𝓤
   Post = walkOf 𝓤 H A f.ended stayed (f.clauses 𝓤 H A at-mem run) .post ((κs, qs, tt, a, vals), tt)
 
-  abbrev left : Served → List ℕ → List ℕ → List ℕ → List (Item 𝓤)
-  left r ms ss os =
+  abbrev left-items : Served → List ℕ → List ℕ → List ℕ → List (Item 𝓤)
+  left-items r ms ss os =
       ‵ (flft κ₀ q₀) ∷ ‵ (flft κ₁ q₁) ∷ ‵ (flft κ₂ q₂) ∷ ‵ (flft κ₃ q₃) ∷ ‵ (flft κ₄ q₄) ∷ ‵ ftrue
       ∷ ‵ (finally u32 (m .name) ms) ∷ ‵ (finally u32 (s .name) ss) ∷ ‵ (finally u8 (o .name) os)
       ∷ ‵ (fobs γ (T.the-row .coded .code (r .tags))) ∷ ‵ (fbor κ₃ (Body (mem T.the-row) b p γ)) ∷ ‵ Own ∷ []
 
   exits : (r : Served) → Is R.the-row (sent r) (sent-val r ∷ []) → (ms ss os : List ℕ) → length ms ≡ length (now m) → length ss ≡ length (now s) → length os ≡ length (now o)
-      → Says r ms ss os → ent 𝓤 (⋆ 𝓤 H A (left r ms ss os)) (Post (sent-val r))
+      → Says r ms ss os → ent 𝓤 (⋆ 𝓤 H A (left-items r ms ss os)) (Post (sent-val r))
   exits r is ms ss os l₀ l₁ l₂ e =
-      qed W (left r ms ss os) ∵
+      qed W (left-items r ms ss os) ∵
       suffices ! _ (ends-at 𝓤 H A f.ended stayed (f.clauses 𝓤 H A at-mem run) W ((κs, qs, tt, a, vals), tt) (sent-val r) (sent r) (ms, (ss, (os, (r .tags, (tt, tt))))) (l₀, (l₁, (l₂, (tt, (tt, tt)))))) $
       says ! (in-place e) $ group ! 6 $ frame ! $
       -- [memory's last; stored's last; output's last; what the record is; its borrow; the datagram]
@@ -198,7 +191,7 @@ module _ {M : Type 1} (𝓤 : URA M) (H : Heap 𝓤) (A : Atoms 𝓤) (W : Given
         pass1 ! (init ! (at 0 3) refl (tt, (tt, (record { fits = room₂ .0 }, tt)))) $
         pass1 ! (init ! (at 0 4) refl (tt, tt)) $
         pass1 ! (init ! (at 0 5) refl (shr-slice-lawful 𝓤 H A W (named 4) κ₄ u8 .typed d (slice d ∷ []) is₄ .0)) $ pass0 ! $
-        -- 7.2 each slice is lent again: _7 and _8 of _1, _9 and _10 of _2, _11 and _12 of _3
+        -- 7.2 each slice is lent-items again: _7 and _8 of _1, _9 and _10 of _2, _11 and _12 of _3
         assigns ! (addr ! (from ! (fld ! refl (hop ! (look-in ! (at 0 1) (sub ! 0 refl (whole !))) (stop !))))) (from ! (stop !)) (init ! (at 0 7) refl (tt, tt)) $
         assigns ! (agg ! (and-then ! (copied ! (at 0 7) refl) (and-then ! (copied-field ! (at 0 1) 1 refl refl (whole !)) (no-more !)))) (from ! (stop !)) (init ! (at 0 8) refl (tt, (tt, (record { fits = room₀ .0 }, tt)))) $
         assigns ! (addr ! (from ! (fld ! refl (hop ! (look-in ! (at 0 2) (sub ! 0 refl (whole !))) (stop !))))) (from ! (stop !)) (init ! (at 0 9) refl (tt, tt)) $
@@ -249,7 +242,7 @@ module _ {M : Type 1} (𝓤 : URA M) (H : Heap 𝓤) (A : Atoms 𝓤) (W : Given
         forget ! (at 12 8) refl $ move ! (at 12 8 ∷ at 13 8 ∷ []) $ free1 ! $ forget ! (at 12 9) refl $ move ! (at 12 9 ∷ at 13 9 ∷ []) $ free1 ! $
         forget ! (at 12 10) refl $ move ! (at 12 10 ∷ at 13 10 ∷ []) $ free1 ! $ forget ! (at 12 11) refl $ move ! (at 12 11 ∷ at 13 11 ∷ []) $ free1 ! $
         forget ! (at 12 12) refl $ move ! (at 12 12 ∷ at 13 12 ∷ []) $ free1 ! $ forget ! (at 12 13) refl $ move ! (at 12 13 ∷ at 13 13 ∷ []) $ free1 ! $ free0 ! $
-        -- 7.10 what is left goes to the exit
+        -- 7.10 what is left-items goes to the exit
         move ! (4 ∷ []) $ split ! $ move ! (1 ∷ []) $ split ! $ move ! (1 ∷ []) $ split ! $ move ! (1 ∷ []) $ split ! $
         -- [κ₄; true; κ₂; κ₁; κ₀; what the record is; its borrow; κ₃; the result; output's last; true; stored's last; memory's last; datagram; …]
         keep ! (4 ∷ 3 ∷ 2 ∷ 7 ∷ 0 ∷ 1 ∷ 12 ∷ 11 ∷ 9 ∷ 5 ∷ 6 ∷ 13 ∷ []) $ by ! (exits r (sent-is r w is) (zs .0) (zs .1 .0) (zs .1 .1 .0) k₀ k₁ k₂ e)))))))))))))))))))))))))

@@ -1,7 +1,7 @@
 -- `header::kind_no` meets its contract: each arm is a case of `kindNo`. Assumes nothing.
 use borrow.Author.Needs.{needs}
 use Rattle.header.specs.Header.{kindNo}
-use Rattle.header.proofs.Laws.Headers.{kind-rest}
+use Rattle.header.proofs.Laws.Header.{kind-rest}
 use Rattle.header.proofs.kind_no.Statement.{statement}
 use Rattle.header.proofs.kind_no.Tie as tie
 

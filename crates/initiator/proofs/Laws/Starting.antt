@@ -6,25 +6,22 @@ use mathlib.Core.List.{List, [], _∷_}
 use native.Mathlib.Omega.{arith}
 use borrow.Author.Tests.{ltb-true, le-ltb, lt-ltb}
 use lib.Dec.{ltb, eqb}
-use lib.ListN.{length, getD, take, drop}
+use lib.ListN.{getD, take, drop}
 use lib.Seq.{getD-take, getD-drop}
 use Rattle.word.specs.Words.{wordsOf}
 use Rattle.header.specs.declared.Kind.{Kind}
 use Rattle.header.specs.declared.Kind.the-variants.{Nop}
 use Rattle.header.specs.declared.refusal.Refusal.{Refusal}
 use Rattle.header.specs.Header.{kindOf, replyWords, nextTag}
-use Rattle.header.specs.Refusal.{refusal}
-use Rattle.header.specs.Limits.{lengthOk}
 use Rattle.message.specs.Discovery.{discoveryByte, discoveryCommand, discoveryRequest}
 use Rattle.message.specs.Request.{Means}
 use Rattle.message.proofs.Laws.Fixed.{discovery-kind}
 use Rattle.answer.specs.declared.Status.{Status}
 use Rattle.answer.specs.declared.Status.the-variants.{Ok}
 use Rattle.answer.specs.declared.Seen.{Seen}
-use Rattle.answer.specs.declared.Look.the-variants.{Item, Bad}
-use Rattle.answer.specs.Answer.{Answered, answerByte, wanted, lookAt, lookTurn, answersFrom, judge}
-use Rattle.answer.proofs.Laws.Judged.{other-byte}
-use Rattle.answer.proofs.Laws.Looking.{judge-long, judge-whole, looked, Found, found}
+use Rattle.answer.specs.declared.Look.the-variants.{Item, Refused}
+use Rattle.answer.specs.Answer.{Answered, wanted, lookAt, lookTurn, answersFrom, headFault, judge}
+use Rattle.answer.proofs.Laws.Looking.{judge-passed, judge-refused, looked, Found, found}
 use Rattle.initiator.specs.Sender.{freshSender, wordOk, nextAfter, spoiled, startedAt, startedBy, startedFrom, startOf}
 
 -- a word that is let by is below 32
@@ -36,56 +33,50 @@ word-lt w e = go (ltb w 16) refl e
     go true z x = let l = ltb-true w 16 z in omega arith
     go false z x = ltb-true w 32 x
 
-module _ (answer : List ℕ) where
-  -- 32
-  pub start-long : lengthOk (length answer) ≡ false → spoiled (refusal 32) ≡ startOf answer
+module _ (answer : List ℕ) (byte0 : ℕ) (is : byte0 ≡ discoveryByte) where
+  -- 32, 33
+  pub start-head : (headFault byte0 answer .number ≡ 0 → ⊥) → spoiled (headFault byte0 answer) ≡ startOf answer
   unfolding startOf
-  start-long e = rw (judge-long discoveryRequest answer e)
+  start-head n = rw (judge-refused discoveryRequest answer (rw is at n), is)
 
-  module _ (byte0 : ℕ) (is : byte0 ≡ discoveryByte) (long : lengthOk (length answer) ≡ true) where
-    -- 33
-    pub start-byte : (getD answer 0 0 ≡ answerByte byte0 → ⊥) → spoiled (refusal 33) ≡ startOf answer
+  module _ (pass : headFault byte0 answer .number ≡ 0) where
+    abbrev ws : List ℕ
+    ws = wordsOf answer
+
+    -- the one header is looked at
+    looks : startOf answer ≡ startedFrom (lookTurn (lookAt byte0 2 true ws 0) (drop (0 + 1) ws) (λ n. answersFrom discoveryByte (0 + 1 + n) [] (drop (0 + 1 + n) ws)))
     unfolding startOf
-    start-byte e = rw (other-byte discoveryRequest answer long (λ q. e (q ∙ ap answerByte (sym is))))
+    looks = rw (judge-passed discoveryRequest answer (rw is at pass), is, looked discoveryByte discoveryCommand [] ws 0)
 
-    module _ (first : getD answer 0 0 ≡ answerByte byte0) where
-      abbrev ws : List ℕ
-      ws = wordsOf answer
+    pub start-bad : (r : Refusal) → lookAt byte0 2 true ws 0 ≡ Refused r → spoiled r ≡ startOf answer
+    start-bad r e = rw (looks, e)
 
-      -- the one header is looked at
-      looks : startOf answer ≡ startedFrom (lookTurn (lookAt byte0 2 true ws 0) (drop (0 + 1) ws) (λ n. answersFrom discoveryByte (0 + 1 + n) [] (drop (0 + 1 + n) ws)))
-      unfolding startOf
-      looks = rw (judge-whole discoveryRequest answer long (first ∙ ap answerByte is), is, looked discoveryByte discoveryCommand [] ws 0)
+    module _ (s : Seen) (e : lookAt byte0 2 true ws 0 ≡ Item s) where
+      pub start-found : Found byte0 2 true ws 0 s
+      start-found = found byte0 2 true ws 0 s e
 
-      pub start-bad : (r : Refusal) → lookAt byte0 2 true ws 0 ≡ Bad r → spoiled r ≡ startOf answer
-      start-bad r e = rw (looks, e)
+      last-is : s .last ≡ true
+      last-is = go (s .last) refl
+        where
+          go : (b : Bool) → s .last ≡ b → b ≡ true
+          go true z = refl
+          go false z = absurd (false≢true (sym (start-found .more z)))
 
-      module _ (s : Seen) (e : lookAt byte0 2 true ws 0 ≡ Item s) where
-        pub start-found : Found byte0 2 true ws 0 s
-        start-found = found byte0 2 true ws 0 s e
+      start-item : startedBy (s .status) (getD (take (s .count) (drop (0 + 1) ws)) 1 0) ≡ startOf answer
+      start-item = rw (looks, e, last-is)
 
-        last-is : s .last ≡ true
-        last-is = go (s .last) refl
-          where
-            go : (b : Bool) → s .last ≡ b → b ≡ true
-            go true z = refl
-            go false z = absurd (false≢true (sym (start-found .more z)))
+      -- by its status
+      pub start-as : (t : Status) → s .status ≡ t → startedBy t (getD (take (s .count) (drop (0 + 1) ws)) 1 0) ≡ startOf answer
+      start-as t o = ap (λ (x : Status). startedBy x (getD (take (s .count) (drop (0 + 1) ws)) 1 0)) (sym o) ∙ start-item
 
-        start-item : startedBy (s .status) (getD (take (s .count) (drop (0 + 1) ws)) 1 0) ≡ startOf answer
-        start-item = rw (looks, e, last-is)
+      -- an OK answer has two words, and word 1 is the datagram's third
+      pub start-two : s .status ≡ Ok → s .count ≡ 2
+      start-two o =
+          let k : kindOf byte0 ≡ Nop = ap kindOf is ∙ discovery-kind in
+          start-found .counted ∙ ap (wanted byte0 2) o ∙ ap (λ (x : Kind). replyWords x 2) k
 
-        -- by its status
-        pub start-as : (t : Status) → s .status ≡ t → startedBy t (getD (take (s .count) (drop (0 + 1) ws)) 1 0) ≡ startOf answer
-        start-as t o = ap (λ (x : Status). startedBy x (getD (take (s .count) (drop (0 + 1) ws)) 1 0)) (sym o) ∙ start-item
-
-        -- an OK answer has two words, and word 1 is the datagram's third
-        pub start-two : s .status ≡ Ok → s .count ≡ 2
-        start-two o =
-            let k : kindOf byte0 ≡ Nop = ap kindOf is ∙ discovery-kind in
-            start-found .counted ∙ ap (wanted byte0 2) o ∙ ap (λ (x : Kind). replyWords x 2) k
-
-        pub start-word : s .status ≡ Ok → getD (take (s .count) (drop (0 + 1) ws)) 1 0 ≡ getD ws 2 0
-        start-word o = getD-take (s .count) (drop (0 + 1) ws) 1 0 (omega (arith, start-two o)) ∙ getD-drop (0 + 1) ws 1 0
+      pub start-word : s .status ≡ Ok → getD (take (s .count) (drop (0 + 1) ws)) 1 0 ≡ getD ws 2 0
+      start-word o = getD-take (s .count) (drop (0 + 1) ws) 1 0 (omega (arith, start-two o)) ∙ getD-drop (0 + 1) ws 1 0
 
 -- an answer that is judged to say something
 pub start-means : (answer : List ℕ) (a : Answered) (more : List Answered) → judge discoveryRequest answer ≡ Means (a ∷ more)

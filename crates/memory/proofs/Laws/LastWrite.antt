@@ -13,60 +13,60 @@ use Rattle.word.specs.Enables.{byteOf, bitOf, merged}
 use Rattle.word.proofs.Places.{merge-byte}
 use Rattle.header.specs.declared.Kind.{Kind}
 use Rattle.header.specs.declared.Kind.the-variants.{Write}
-use Rattle.header.specs.Header.{kindOf, firstOf, finalOf, dataWords}
+use Rattle.header.specs.Header.{kindOf, firstField, lastField, dataWords}
 use Rattle.message.specs.Request.{Command, Request, FitsCommand, All, Fits}
 use Rattle.message.proofs.Laws.Pieces.{all-first, all-rest}
-use Rattle.memory.specs.Moves.{fails, Store, storesBehind, stores, movesOf, moves, moved, afterMoves, memoryAfter}
+use Rattle.memory.specs.Moves.{fails, Store, storesBehind, stores, movesOf, moves, afterMove, afterMoves, memoryAfter}
 use Rattle.memory.specs.Promises.{carried, enablesAt, enables, anyEnables, byteAt, LastWrite}
 use Rattle.memory.proofs.Laws.Moving.{after-append, length-after, within}
 
 -- the words behind a write's first: each word of memory outside stays, each inside is merged once
-behind-other : (m : List ℕ) (at final : ℕ) (ws : List ℕ) (i : ℕ) → ((j : ℕ) → j < length ws → i ≡ at + j → ⊥)
-    → getD (afterMoves m (storesBehind at final ws)) i 0 ≡ getD m i 0
+behind-other : (m : List ℕ) (at last : ℕ) (ws : List ℕ) (i : ℕ) → ((j : ℕ) → j < length ws → i ≡ at + j → ⊥)
+    → getD (afterMoves m (storesBehind at last ws)) i 0 ≡ getD m i 0
 unfolding afterMoves storesBehind
-behind-other m at final [] i h = refl
-behind-other m at final (w ∷ []) i h = getD-set-other m at i (merged (getD m at 0) w final) 0 (λ e. h 0 (omega arith) (omega arith))
-behind-other m at final (w ∷ v ∷ ws) i h =
-    behind-other (moved m (Store at w 15)) (suc at) final (v ∷ ws) i (λ j l e. h (suc j) (omega arith) (omega arith))
+behind-other m at last [] i h = refl
+behind-other m at last (w ∷ []) i h = getD-set-other m at i (merged (getD m at 0) w last) 0 (λ e. h 0 (omega arith) (omega arith))
+behind-other m at last (w ∷ v ∷ ws) i h =
+    behind-other (afterMove m (Store at w 15)) (suc at) last (v ∷ ws) i (λ j l e. h (suc j) (omega arith) (omega arith))
     ∙ getD-set-other m at i (merged (getD m at 0) w 15) 0 (λ e. h 0 (omega arith) (omega arith))
 
-behind-at : (m : List ℕ) (at final : ℕ) (ws : List ℕ) (j : ℕ) → j < length ws → at + length ws ≤ length m
-    → getD (afterMoves m (storesBehind at final ws)) (at + j) 0 ≡ merged (getD m (at + j) 0) (getD ws j 0) (cond (eqb (suc j) (length ws)) final 15)
+behind-at : (m : List ℕ) (at last : ℕ) (ws : List ℕ) (j : ℕ) → j < length ws → at + length ws ≤ length m
+    → getD (afterMoves m (storesBehind at last ws)) (at + j) 0 ≡ merged (getD m (at + j) 0) (getD ws j 0) (cond (eqb (suc j) (length ws)) last 15)
 unfolding afterMoves storesBehind
-behind-at m at final [] j l h = absurd (omega arith)
-behind-at m at final (w ∷ []) zero l h = rw (add-zero at) (getD-set-same m at (merged (getD m at 0) w final) 0 (omega arith))
-behind-at m at final (w ∷ []) (suc j) l h = absurd (omega arith)
-behind-at m at final (w ∷ v ∷ ws) zero l h =
+behind-at m at last [] j l h = absurd (omega arith)
+behind-at m at last (w ∷ []) zero l h = rw (add-zero at) (getD-set-same m at (merged (getD m at 0) w last) 0 (omega arith))
+behind-at m at last (w ∷ []) (suc j) l h = absurd (omega arith)
+behind-at m at last (w ∷ v ∷ ws) zero l h =
     let e : eqb 1 (suc (suc (length ws))) ≡ false = ne-eqb 1 (suc (suc (length ws))) (λ q. omega arith) in
-    rw (add-zero at, e) (behind-other (moved m (Store at w 15)) (suc at) final (v ∷ ws) at (λ j l q. omega arith)
+    rw (add-zero at, e) (behind-other (afterMove m (Store at w 15)) (suc at) last (v ∷ ws) at (λ j l q. omega arith)
     ∙ getD-set-same m at (merged (getD m at 0) w 15) 0 (omega arith))
-behind-at m at final (w ∷ v ∷ ws) (suc j) l h =
+behind-at m at last (w ∷ v ∷ ws) (suc j) l h =
     let p : at + suc j ≡ suc at + j = omega arith in
     let e : eqb (suc (suc j)) (suc (length (v ∷ ws))) ≡ eqb (suc j) (length (v ∷ ws)) = eqb·suc-suc (suc j) (length (v ∷ ws)) in
-    rw (p, e) (behind-at (moved m (Store at w 15)) (suc at) final (v ∷ ws) j (omega arith) (simp length-set (omega arith))
+    rw (p, e) (behind-at (afterMove m (Store at w 15)) (suc at) last (v ∷ ws) j (omega arith) (simp length-set (omega arith))
     ∙ rw (getD-set-other m at (suc at + j) (merged (getD m at 0) w 15) 0 (λ q. omega arith)))
 
 -- the same of a whole write
-stores-other : (m : List ℕ) (at first final : ℕ) (ws : List ℕ) (i : ℕ) → ((j : ℕ) → j < length ws → i ≡ at + j → ⊥)
-    → getD (afterMoves m (stores at first final ws)) i 0 ≡ getD m i 0
+stores-other : (m : List ℕ) (at first last : ℕ) (ws : List ℕ) (i : ℕ) → ((j : ℕ) → j < length ws → i ≡ at + j → ⊥)
+    → getD (afterMoves m (stores at first last ws)) i 0 ≡ getD m i 0
 unfolding afterMoves stores
-stores-other m at first final [] i h = refl
-stores-other m at first final (w ∷ ws) i h =
-    behind-other (moved m (Store at w first)) (suc at) final ws i (λ j l e. h (suc j) (omega arith) (omega arith))
+stores-other m at first last [] i h = refl
+stores-other m at first last (w ∷ ws) i h =
+    behind-other (afterMove m (Store at w first)) (suc at) last ws i (λ j l e. h (suc j) (omega arith) (omega arith))
     ∙ getD-set-other m at i (merged (getD m at 0) w first) 0 (λ e. h 0 (omega arith) (omega arith))
 
-stores-at : (m : List ℕ) (at first final : ℕ) (ws : List ℕ) (j : ℕ) → j < length ws → at + length ws ≤ length m
-    → getD (afterMoves m (stores at first final ws)) (at + j) 0
-    ≡ merged (getD m (at + j) 0) (getD ws j 0) (cond (eqb j 0) first (cond (eqb (suc j) (length ws)) final 15))
+stores-at : (m : List ℕ) (at first last : ℕ) (ws : List ℕ) (j : ℕ) → j < length ws → at + length ws ≤ length m
+    → getD (afterMoves m (stores at first last ws)) (at + j) 0
+    ≡ merged (getD m (at + j) 0) (getD ws j 0) (cond (eqb j 0) first (cond (eqb (suc j) (length ws)) last 15))
 unfolding afterMoves stores
-stores-at m at first final [] j l h = absurd (omega arith)
-stores-at m at first final (w ∷ ws) zero l h =
-    rw (add-zero at) (behind-other (moved m (Store at w first)) (suc at) final ws at (λ j l q. omega arith) ∙ getD-set-same m at (merged (getD m at 0) w first) 0 (omega arith))
-stores-at m at first final (w ∷ ws) (suc j) l h =
+stores-at m at first last [] j l h = absurd (omega arith)
+stores-at m at first last (w ∷ ws) zero l h =
+    rw (add-zero at) (behind-other (afterMove m (Store at w first)) (suc at) last ws at (λ j l q. omega arith) ∙ getD-set-same m at (merged (getD m at 0) w first) 0 (omega arith))
+stores-at m at first last (w ∷ ws) (suc j) l h =
     let p : at + suc j ≡ suc at + j = omega arith in
     let e : eqb (suc (suc j)) (suc (length ws)) ≡ eqb (suc j) (length ws) = eqb·suc-suc (suc j) (length ws) in
     let z : eqb (suc j) 0 ≡ false = ne-eqb (suc j) 0 (λ q. omega arith) in
-    rw (p, e, z) (behind-at (moved m (Store at w first)) (suc at) final ws j (omega arith) (simp length-set (omega arith))
+    rw (p, e, z) (behind-at (afterMove m (Store at w first)) (suc at) last ws j (omega arith) (simp length-set (omega arith))
     ∙ rw (getD-set-other m at (suc at + j) (merged (getD m at 0) w first) 0 (λ q. omega arith)))
 
 all-three : (a b c : Bool) → a && b && c ≡ true → (a ≡ true) × (b ≡ true) × (c ≡ true)
@@ -86,7 +86,7 @@ module _ (m : List ℕ) (c : Command) (i k : ℕ) (four : k < 4) (long : length 
   unfolding enablesAt
   covered p q =
       let e : base + (i - base) ≡ i = omega arith in
-      let s = stores-at m base (firstOf (c .byte1)) (finalOf (c .byte1)) (c .payload) (i - base) (omega arith) (omega arith) in
+      let s = stores-at m base (firstField (c .byte1)) (lastField (c .byte1)) (c .payload) (i - base) (omega arith) (omega arith) in
       ap (byteOf k) (rw (e, long) at s) ∙ merge-byte k (getD m i 0) (getD (c .payload) (i - base) 0) (enablesAt c (i - base)) four
 
   enabled-byte : enables i k c ≡ true → byteAt (afterMoves m (movesOf Write c)) i k ≡ byteOf k (getD (c .payload) (i - base) 0)
@@ -100,7 +100,7 @@ module _ (m : List ℕ) (c : Command) (i k : ℕ) (four : k < 4) (long : length 
   other-byte e = go (leb base i) (ltb i (base + c .count)) refl refl e
     where
       away : ((j : ℕ) → j < length (c .payload) → i ≡ base + j → ⊥) → byteAt (afterMoves m (movesOf Write c)) i k ≡ byteAt m i k
-      away h = ap (byteOf k) (stores-other m base (firstOf (c .byte1)) (finalOf (c .byte1)) (c .payload) i h)
+      away h = ap (byteOf k) (stores-other m base (firstField (c .byte1)) (lastField (c .byte1)) (c .payload) i h)
 
       go : (a b : Bool) → leb base i ≡ a → ltb i (base + c .count) ≡ b → a && b && bitOf k (enablesAt c (i - base)) ≡ false
           → byteAt (afterMoves m (movesOf Write c)) i k ≡ byteAt m i k

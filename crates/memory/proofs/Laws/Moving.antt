@@ -18,7 +18,7 @@ use Rattle.word.proofs.Places.{merge-lt, merge-whole}
 use Rattle.header.specs.declared.Kind.{Kind}
 use Rattle.header.specs.declared.Kind.the-variants.{Nop, Write, Read, Response}
 use Rattle.message.specs.Request.{Command}
-use Rattle.memory.specs.Moves.{outside, Move, Fetch, Store, fetches, storesBehind, stores, movesOf, moved, afterMoves}
+use Rattle.memory.specs.Moves.{outside, Move, Fetch, Store, fetches, storesBehind, stores, movesOf, afterMove, afterMoves}
 
 pub after-none : (m : List ℕ) → afterMoves m [] ≡ m
 unfolding afterMoves
@@ -27,14 +27,14 @@ after-none m = refl
 pub after-append : (m : List ℕ) (a b : List Move) → afterMoves m (a ++ b) ≡ afterMoves (afterMoves m a) b
 unfolding afterMoves
 after-append m [] b = refl
-after-append m (v ∷ a) b = after-append (moved m v) a b
+after-append m (v ∷ a) b = after-append (afterMove m v) a b
 
 -- memory keeps its length
 pub length-after : (m : List ℕ) (vs : List Move) → length (afterMoves m vs) ≡ length m
 unfolding afterMoves
 length-after m [] = refl
 length-after m (Fetch i ∷ vs) = length-after m vs
-length-after m (Store i w e ∷ vs) = length-after (moved m (Store i w e)) vs ∙ simp length-set
+length-after m (Store i w e ∷ vs) = length-after (afterMove m (Store i w e)) vs ∙ simp length-set
 
 -- words stay words
 pub words-after : (m : List ℕ) (vs : List Move) → Words m → Words (afterMoves m vs)
@@ -42,7 +42,7 @@ unfolding afterMoves
 words-after m [] h = h
 words-after m (Fetch i ∷ vs) h = words-after m vs h
 words-after m (Store i w e ∷ vs) h =
-    words-after (moved m (Store i w e)) vs (below-set 4294967296 m i (merged (getD m i 0) w e) h (merge-lt (getD m i 0) w e))
+    words-after (afterMove m (Store i w e)) vs (below-set 4294967296 m i (merged (getD m i 0) w e) h (merge-lt (getD m i 0) w e))
 
 -- the range of a read or write that does not fail lies inside memory
 pub within : (size address count : ℕ) → outside size address count ≡ false → address / 4 + count ≤ size
@@ -67,23 +67,23 @@ command-quiet Read m c h = fetches-quiet m (c .address / 4) (c .count)
 command-quiet Response m c h = refl
 
 -- a word before others is written whole
-behind-more : (at final w : ℕ) (mid : List ℕ) (z : ℕ) → storesBehind at final (w ∷ (mid ++ (z ∷ []))) ≡ Store at w 15 ∷ storesBehind (suc at) final (mid ++ (z ∷ []))
+behind-more : (at last w : ℕ) (mid : List ℕ) (z : ℕ) → storesBehind at last (w ∷ (mid ++ (z ∷ []))) ≡ Store at w 15 ∷ storesBehind (suc at) last (mid ++ (z ∷ []))
 unfolding storesBehind
-behind-more at final w [] z = refl
-behind-more at final w (v ∷ mid) z = refl
+behind-more at last w [] z = refl
+behind-more at last w (v ∷ mid) z = refl
 
 -- the words behind the first: copied, but for the last one
-behind-is : (m : List ℕ) (at final : ℕ) (mid : List ℕ) (z : ℕ) → Words mid → at + length mid < length m
-    → afterMoves m (storesBehind at final (mid ++ (z ∷ []))) ≡ moved (put m at mid) (Store (at + length mid) z final)
+behind-is : (m : List ℕ) (at last : ℕ) (mid : List ℕ) (z : ℕ) → Words mid → at + length mid < length m
+    → afterMoves m (storesBehind at last (mid ++ (z ∷ []))) ≡ afterMove (put m at mid) (Store (at + length mid) z last)
 unfolding afterMoves storesBehind
-behind-is m at final [] z h l = rw (put-none m at, add-zero at)
-behind-is m at final (w ∷ mid) z h l =
-    let e : moved m (Store at w 15) ≡ put m at (w ∷ []) = ap (set m at) (merge-whole (getD m at 0) w (below-nth 4294967296 (w ∷ mid) 0 h (omega arith))) ∙ put-one m at w (omega arith) in
-    let n : length (moved m (Store at w 15)) ≡ length m = simp length-set in
+behind-is m at last [] z h l = rw (put-none m at, add-zero at)
+behind-is m at last (w ∷ mid) z h l =
+    let e : afterMove m (Store at w 15) ≡ put m at (w ∷ []) = ap (set m at) (merge-whole (getD m at 0) w (below-nth 4294967296 (w ∷ mid) 0 h (omega arith))) ∙ put-one m at w (omega arith) in
+    let n : length (afterMove m (Store at w 15)) ≡ length m = simp length-set in
     let p : put (put m at (w ∷ [])) (suc at) mid ≡ put m at (w ∷ mid) = rw add-one at (put-put m at (w ∷ []) mid (omega arith)) in
     let q : suc at + length mid ≡ at + suc (length mid) = omega arith in
-    ap (afterMoves m) (behind-more at final w mid z)
-    ∙ behind-is (moved m (Store at w 15)) (suc at) final mid z (below-drop 4294967296 1 (w ∷ mid) h) (omega arith)
+    ap (afterMoves m) (behind-more at last w mid z)
+    ∙ behind-is (afterMove m (Store at w 15)) (suc at) last mid z (below-drop 4294967296 1 (w ∷ mid) h) (omega arith)
     ∙ rw (e, p, q)
 
 -- a run of two words or more: its first, what lies between, its last
@@ -94,31 +94,31 @@ run-cut ws from n h =
     rw (drop-cons ws from 0 (omega arith), take-suc (drop (suc from) ws) n 0 l, getD-drop)
 
 -- a write's moves, as the code makes them: the word w merged, n words copied, the word z merged
-write-is : (m : List ℕ) (at first final : ℕ) (ws : List ℕ) (from n : ℕ) → Words ws → from + suc (suc n) ≤ length ws → at + suc (suc n) ≤ length m
-    → moved (put (moved m (Store at (getD ws from 0) first)) (suc at) (take n (drop (suc from) ws))) (Store (suc at + n) (getD ws (suc from + n) 0) final)
-    ≡ afterMoves m (stores at first final (take (suc (suc n)) (drop from ws)))
+write-is : (m : List ℕ) (at first last : ℕ) (ws : List ℕ) (from n : ℕ) → Words ws → from + suc (suc n) ≤ length ws → at + suc (suc n) ≤ length m
+    → afterMove (put (afterMove m (Store at (getD ws from 0) first)) (suc at) (take n (drop (suc from) ws))) (Store (suc at + n) (getD ws (suc from + n) 0) last)
+    ≡ afterMoves m (stores at first last (take (suc (suc n)) (drop from ws)))
 unfolding afterMoves stores
-write-is m at first final ws from n w h k =
+write-is m at first last ws from n w h k =
     let mid : List ℕ = take n (drop (suc from) ws) in
     let l : length mid ≡ n = length-take-le n (drop (suc from) ws) (simp length-drop (omega arith)) in
-    let b = behind-is (moved m (Store at (getD ws from 0) first)) (suc at) final mid (getD ws (suc from + n) 0)
+    let b = behind-is (afterMove m (Store at (getD ws from 0) first)) (suc at) last mid (getD ws (suc from + n) 0)
     (below-take 4294967296 n (drop (suc from) ws) (below-drop 4294967296 (suc from) ws w)) (simp length-set (omega arith)) in
     rw (run-cut ws from n h) (rw l at (sym b))
 
-pub write-made : (m ws : List ℕ) (at from count first final : ℕ) {m₁ m₂ m' : List ℕ} {f g w z : ℕ}
-    → m₁ ≡ moved m (Store at w f) → m₂ ≡ put m₁ (at + 1) (take (count - 2) (drop (from + 1) ws)) → m' ≡ moved m₂ (Store (at + 1 + (count - 2)) z g)
-    → f ≡ first → g ≡ final → w ≡ getD ws from 0 → z ≡ getD ws (from + 1 + (count - 2)) 0
-    → Words ws → 2 ≤ count → from + count ≤ length ws → at + count ≤ length m → m' ≡ afterMoves m (stores at first final (take count (drop from ws)))
-write-made m ws at from count first final e₁ e₂ e₃ f g w z h two l k =
+pub write-made : (m ws : List ℕ) (at from count first last : ℕ) {m₁ m₂ m' : List ℕ} {f g w z : ℕ}
+    → m₁ ≡ afterMove m (Store at w f) → m₂ ≡ put m₁ (at + 1) (take (count - 2) (drop (from + 1) ws)) → m' ≡ afterMove m₂ (Store (at + 1 + (count - 2)) z g)
+    → f ≡ first → g ≡ last → w ≡ getD ws from 0 → z ≡ getD ws (from + 1 + (count - 2)) 0
+    → Words ws → 2 ≤ count → from + count ≤ length ws → at + count ≤ length m → m' ≡ afterMoves m (stores at first last (take count (drop from ws)))
+write-made m ws at from count first last e₁ e₂ e₃ f g w z h two l k =
     let c : count ≡ suc (suc (count - 2)) = omega arith in
-    let i = write-is m at first final ws from (count - 2) h (omega arith) (omega arith) in
+    let i = write-is m at first last ws from (count - 2) h (omega arith) (omega arith) in
     e₃ ∙ rw (e₂, e₁, f, g, w, z) (rw (← add-one at, ← add-one from, ← c) at i)
 
 -- a write of one word
-pub write-one : (m ws : List ℕ) (at from count first final : ℕ) {m' : List ℕ} {f w : ℕ} → m' ≡ moved m (Store at w f) → f ≡ first → w ≡ getD ws from 0
-    → count ≡ 1 → from < length ws → m' ≡ afterMoves m (stores at first final (take count (drop from ws)))
+pub write-one : (m ws : List ℕ) (at from count first last : ℕ) {m' : List ℕ} {f w : ℕ} → m' ≡ afterMove m (Store at w f) → f ≡ first → w ≡ getD ws from 0
+    → count ≡ 1 → from < length ws → m' ≡ afterMoves m (stores at first last (take count (drop from ws)))
 unfolding afterMoves stores storesBehind
-write-one m ws at from count first final e f w c h = e ∙ rw (f, w, c, drop-cons ws from 0 h)
+write-one m ws at from count first last e f w c h = e ∙ rw (f, w, c, drop-cons ws from 0 h)
 
 -- a read of a run, which is lent as a part of memory
 pub read-part : (m : List ℕ) (at count : ℕ) → take (at + count - at) (drop at m) ≡ take count (drop at m)

@@ -15,12 +15,12 @@ use Rattle.word.proofs.Crossing.{bytes-back, words-below, length-wordsOf}
 use Rattle.header.specs.Limits.{limit, lengthOk}
 use Rattle.header.specs.Header.{kindOf, byte1Of, countOf, lastOf, headerFrom, addressWords, dataWords, bodyWords, headOf, endsOk}
 use Rattle.header.specs.Refusal.{refusedAt}
-use Rattle.header.proofs.Laws.Headers.{header-is, address-le}
-use Rattle.header.proofs.Laws.Lengths.{right}
-use Rattle.message.specs.declared.walk.Step.the-variants.{Read, Refused}
+use Rattle.header.proofs.Laws.Header.{header-is, address-le}
+use Rattle.header.proofs.Laws.Limits.{right}
+use Rattle.message.specs.declared.walk.Step.the-variants.{Read, Refused as RefusedStep}
 use Rattle.message.specs.Faults.{asks}
-use Rattle.message.specs.Walk.{stepOn, commandOf, turn, commandsFrom, ended, read, asked}
-use Rattle.message.specs.Request.{Command, Request, Reading, Wrong, Means, before, replies, commandWords, none, requestWords, written, FitsCommand, All, Fits}
+use Rattle.message.specs.Walk.{stepOn, commandOf, turn, commandsFrom, ended, read, requestOf}
+use Rattle.message.specs.Request.{Command, Request, Reading, Refused, Means, before, replies, commandWords, none, requestWords, written, FitsCommand, All, Fits}
 use Rattle.message.proofs.Laws.Faults.{SoundBefore, sound, faultBefore, no-mean, past, before-is}
 use Rattle.message.proofs.Laws.Addresses.{address-is, address-top}
 
@@ -99,7 +99,7 @@ commands-backed byte0 at zero (h ∷ rest) cs e m = go (λ n ds x. commands-back
 
     go : ((n : ℕ) (ds : List Command) → commandsFrom byte0 (at + 1 + n) n rest ≡ Means ds → Backed byte0 (drop n rest) ds)
         → (b : Bool) → eqb (faultBefore byte0 h rest) 0 ≡ b
-        → turn (cond b (Read (headOf byte0 h)) (Refused (refusedAt (faultBefore byte0 h rest) at))) (commandOf byte0 h rest) (λ n. commandsFrom byte0 (at + 1 + n) n rest) ≡ Means cs
+        → turn (cond b (Read (headOf byte0 h)) (RefusedStep (refusedAt (faultBefore byte0 h rest) at))) (commandOf byte0 h rest) (λ n. commandsFrom byte0 (at + 1 + n) n rest) ≡ Means cs
         → Backed byte0 (h ∷ rest) cs
     go ih false z x = no-mean x
     go ih true z x = by (sound byte0 h (length rest) _ (eqb-true _ _ z)) ih (lastOf h) refl x
@@ -108,7 +108,7 @@ commands-backed byte0 at zero (h ∷ rest) cs e m = go (λ n ds x. commands-back
 pub ended-is : (byte0 : ℕ) (p : Reading (List Command)) (r : Request) → ended byte0 p ≡ Means r
     → (r .byte0 ≡ byte0) × (p ≡ Means (r .commands)) × (replies byte0 (r .commands) ≤ limit)
 unfolding ended
-ended-is byte0 (Wrong n) r e = no-mean e
+ended-is byte0 (Refused n) r e = no-mean e
 ended-is byte0 (Means cs) r e =
     let p = past (leb (replies byte0 cs) limit) _ _ e in
     let q : record { byte0 = byte0; commands = cs } ≡ r = cc in
@@ -136,9 +136,9 @@ written-read dg r h m =
     )
 
 -- what a datagram asks is what it means
-pub asked-is : (dg : List ℕ) (r : Request) → read dg ≡ Means r → asked dg ≡ r
-unfolding asked
+pub asked-is : (dg : List ℕ) (r : Request) → read dg ≡ Means r → requestOf dg ≡ r
+unfolding requestOf
 asked-is dg r e = rw e
 
-pub means-asked : (dg : List ℕ) (r : Request) → read dg ≡ Means r → read dg ≡ Means (asked dg)
+pub means-asked : (dg : List ℕ) (r : Request) → read dg ≡ Means r → read dg ≡ Means (requestOf dg)
 means-asked dg r e = rw (asked-is dg r e) e

@@ -18,12 +18,12 @@ use Rattle.header.specs.declared.refusal.Refusal.{Refusal}
 use Rattle.header.specs.Limits.{limit, lengthOk}
 use Rattle.header.specs.Header.{kindOf, byte0Of, byte1Of, countOf, reservedOf, lastOf, addressWords, bodyWords, headOf, endsOk}
 use Rattle.header.specs.Refusal.{refusedAt, refusal}
-use Rattle.header.proofs.Laws.Refusals.{Between, unless-between, Further, further-here, further-on, further-at, number-is, at-is}
-use Rattle.header.proofs.Laws.Lengths.{right}
-use Rattle.message.specs.declared.walk.Step.the-variants.{Read, Refused}
+use Rattle.header.proofs.Laws.Refusal.{Between, unless-between, Further, further-here, further-on, further-at, number-is, at-is}
+use Rattle.header.proofs.Laws.Limits.{right}
+use Rattle.message.specs.declared.walk.Step.the-variants.{Read, Refused as RefusedStep}
 use Rattle.message.specs.Faults.{asks, countOk, enablesOk, faultOf}
 use Rattle.message.specs.Walk.{stepOn, commandOf, turn, commandsFrom, ended, read}
-use Rattle.message.specs.Request.{Command, Request, Reading, Wrong, Means, before, replies, commandWords, written, FitsCommand, All}
+use Rattle.message.specs.Request.{Command, Request, Reading, Refused, Means, before, replies, commandWords, written, FitsCommand, All}
 use Rattle.message.specs.Exactly.{openWords, faultIn, FaultAfter, TooLong, Exactly}
 use Rattle.message.proofs.Laws.Faults.{SoundBefore, sound, faultBefore, step-refused, no-mean, same-refusal, before-wrong}
 use Rattle.message.proofs.Laws.Round.{command-long, one-back, read-asked, read-written}
@@ -56,7 +56,7 @@ unfolding faultIn openWords All
 none-there byte0 at = further-here 3 at (omega arith) (omega arith) (record { good = []; fit = tt; tail = []; is = refl; fault = refl; place = refl })
 
 -- from the walk to the words: good commands, then the fault
-after-walk : (byte0 at skip : ℕ) (ws : List ℕ) (r : Refusal) → Words ws → commandsFrom byte0 at skip ws ≡ Wrong r → Fault byte0 at r (drop skip ws)
+after-walk : (byte0 at skip : ℕ) (ws : List ℕ) (r : Refusal) → Words ws → commandsFrom byte0 at skip ws ≡ Refused r → Fault byte0 at r (drop skip ws)
 unfolding commandsFrom stepOn headOf faultIn openWords All Below
 after-walk byte0 at zero [] r e m = rw (← same-refusal m) (none-there byte0 at)
 after-walk byte0 at (suc n) [] r e m = rw (← same-refusal m) (none-there byte0 at)
@@ -81,16 +81,16 @@ after-walk byte0 at zero (h ∷ rest) r e m = go (λ n x. after-walk byte0 (at +
         length-append (commandWords byte0 false c) (openWords byte0 (a .good)) ∙ rw (command-long byte0 false c fits, count-of byte0 h rest, a .place) in
         record { good = c ∷ a .good; fit = (fits, a .fit); tail = a .tail; is = is; fault = a .fault; place = long }
 
-    by : SoundBefore byte0 h rest → ((n : ℕ) → commandsFrom byte0 (at + 1 + n) n rest ≡ Wrong r → Fault byte0 (at + 1 + n) r (drop n rest))
+    by : SoundBefore byte0 h rest → ((n : ℕ) → commandsFrom byte0 (at + 1 + n) n rest ≡ Refused r → Fault byte0 (at + 1 + n) r (drop n rest))
         → (b : Bool) → lastOf h ≡ b
-        → cond b (Means (commandOf byte0 h rest ∷ [])) (before (commandOf byte0 h rest) (commandsFrom byte0 (at + 1 + body) body rest)) ≡ Wrong r
+        → cond b (Means (commandOf byte0 h rest ∷ [])) (before (commandOf byte0 h rest) (commandsFrom byte0 (at + 1 + body) body rest)) ≡ Refused r
         → Fault byte0 at r (h ∷ rest)
     by s ih true l x = no-mean (sym x)
     by s ih false l x = further-on at (1 + body) (at + 1 + body) (omega arith) (behind s l) (ih body (before-wrong (commandOf byte0 h rest) _ x))
 
-    go : ((n : ℕ) → commandsFrom byte0 (at + 1 + n) n rest ≡ Wrong r → Fault byte0 (at + 1 + n) r (drop n rest))
+    go : ((n : ℕ) → commandsFrom byte0 (at + 1 + n) n rest ≡ Refused r → Fault byte0 (at + 1 + n) r (drop n rest))
         → (b : Bool) → eqb (faultBefore byte0 h rest) 0 ≡ b
-        → turn (cond b (Read (headOf byte0 h)) (Refused (refusedAt (faultBefore byte0 h rest) at))) (commandOf byte0 h rest) (λ n. commandsFrom byte0 (at + 1 + n) n rest) ≡ Wrong r
+        → turn (cond b (Read (headOf byte0 h)) (RefusedStep (refusedAt (faultBefore byte0 h rest) at))) (commandOf byte0 h rest) (λ n. commandsFrom byte0 (at + 1 + n) n rest) ≡ Refused r
         → Fault byte0 at r (h ∷ rest)
     go ih false z x = here z (same-refusal x)
     go ih true z x = by (sound byte0 h (length rest) _ (eqb-true _ _ z)) ih (lastOf h) refl x
@@ -104,7 +104,7 @@ counted-asks Response n e = e
 
 -- and from the words to the walk
 walk-after : (byte0 at n : ℕ) → byte0 < 256 → (n ≡ 0 → ⊥) → (good : List Command) (tail : List ℕ) → All (FitsCommand byte0) good → faultIn byte0 tail ≡ n
-    → commandsFrom byte0 at 0 (openWords byte0 good ++ tail) ≡ Wrong (refusedAt n (at + length (openWords byte0 good)))
+    → commandsFrom byte0 at 0 (openWords byte0 good ++ tail) ≡ Refused (refusedAt n (at + length (openWords byte0 good)))
 unfolding openWords faultIn All commandsFrom
 walk-after byte0 at n hb z [] [] f e = rw (e, add-zero at)
 walk-after byte0 at n hb z [] (h ∷ rest) f e = rw (step-refused byte0 at h (length rest) _ (λ q. z (sym e ∙ q)), e, add-zero at)
@@ -122,19 +122,19 @@ data Why (dg : List ℕ) (r : Refusal) : Type 0 where
   walk : lengthOk (length dg) ≡ true → Fault (getD dg 0 0) 0 r (wordsOf dg) → Why dg r
   over : lengthOk (length dg) ≡ true → (cs : List Command) → commandsFrom (getD dg 0 0) 0 0 (wordsOf dg) ≡ Means cs → limit < replies (getD dg 0 0) cs → refusal 10 ≡ r → Why dg r
 
-why : (dg : List ℕ) (r : Refusal) → Bytes dg → read dg ≡ Wrong r → Why dg r
+why : (dg : List ℕ) (r : Refusal) → Bytes dg → read dg ≡ Refused r → Why dg r
 unfolding read ended
 why dg r hb m = go (lengthOk (length dg)) refl (commandsFrom (getD dg 0 0) 0 0 (wordsOf dg)) refl m
   where
     tenth : lengthOk (length dg) ≡ true → (cs : List Command) → commandsFrom (getD dg 0 0) 0 0 (wordsOf dg) ≡ Means cs
-        → (b : Bool) → leb (replies (getD dg 0 0) cs) limit ≡ b → cond {A = Reading Request} b (Means (record { byte0 = getD dg 0 0; commands = cs })) (Wrong (refusal 10)) ≡ Wrong r → Why dg r
+        → (b : Bool) → leb (replies (getD dg 0 0) cs) limit ≡ b → cond {A = Reading Request} b (Means (record { byte0 = getD dg 0 0; commands = cs })) (Refused (refusal 10)) ≡ Refused r → Why dg r
     tenth l cs w true z x = no-mean (sym x)
     tenth l cs w false z x = over l cs w (leb-false _ _ z) (same-refusal x)
 
     go : (a : Bool) → lengthOk (length dg) ≡ a → (p : Reading (List Command)) → commandsFrom (getD dg 0 0) 0 0 (wordsOf dg) ≡ p
-        → cond a (ended (getD dg 0 0) p) (Wrong (refusal 2)) ≡ Wrong r → Why dg r
+        → cond a (ended (getD dg 0 0) p) (Refused (refusal 2)) ≡ Refused r → Why dg r
     go false l p w x = long l (same-refusal x)
-    go true l (Wrong q) w x = walk l (after-walk (getD dg 0 0) 0 0 (wordsOf dg) r (words-below dg hb) (w ∙ ap Wrong (same-refusal x)))
+    go true l (Refused q) w x = walk l (after-walk (getD dg 0 0) 0 0 (wordsOf dg) r (words-below dg hb) (w ∙ ap Refused (same-refusal x)))
     go true l (Means cs) w x = tenth l cs w (leb (replies (getD dg 0 0) cs) limit) refl x
 
 -- the request of the commands that were read
@@ -158,7 +158,7 @@ too-long dg hb l cs w o =
     }
 
 module _ (dg : List ℕ) (hb : Bytes dg) where
-  two-only : (at : ℕ) → read dg ≡ Wrong (refusedAt 2 at) → (lengthOk (length dg) ≡ false) × (at ≡ 0)
+  two-only : (at : ℕ) → read dg ≡ Refused (refusedAt 2 at) → (lengthOk (length dg) ≡ false) × (at ≡ 0)
   two-only at m = go (why dg (refusedAt 2 at) hb m)
     where
       go : Why dg (refusedAt 2 at) → (lengthOk (length dg) ≡ false) × (at ≡ 0)
@@ -166,7 +166,7 @@ module _ (dg : List ℕ) (hb : Bytes dg) where
       go (walk l f) = absurd (omega (arith, f .least))
       go (over l cs w o e) = absurd (omega (arith, number-is e))
 
-  faults-only : (n at : ℕ) → 3 ≤ n → n ≤ 9 → read dg ≡ Wrong (refusedAt n at) → (lengthOk (length dg) ≡ true) × FaultAfter (getD dg 0 0) n at (wordsOf dg)
+  faults-only : (n at : ℕ) → 3 ≤ n → n ≤ 9 → read dg ≡ Refused (refusedAt n at) → (lengthOk (length dg) ≡ true) × FaultAfter (getD dg 0 0) n at (wordsOf dg)
   faults-only n at h k m = go (why dg (refusedAt n at) hb m)
     where
       go : Why dg (refusedAt n at) → (lengthOk (length dg) ≡ true) × FaultAfter (getD dg 0 0) n at (wordsOf dg)
@@ -174,7 +174,7 @@ module _ (dg : List ℕ) (hb : Bytes dg) where
       go (walk l f) = (l, further-at n at f)
       go (over l cs w o e) = absurd (omega (arith, number-is e))
 
-  ten-only : (at : ℕ) → read dg ≡ Wrong (refusedAt 10 at) → TooLong dg × (at ≡ 0)
+  ten-only : (at : ℕ) → read dg ≡ Refused (refusedAt 10 at) → TooLong dg × (at ≡ 0)
   ten-only at m = go (why dg (refusedAt 10 at) hb m)
     where
       go : Why dg (refusedAt 10 at) → TooLong dg × (at ≡ 0)
@@ -182,18 +182,18 @@ module _ (dg : List ℕ) (hb : Bytes dg) where
       go (walk l f) = absurd (omega (arith, f .most))
       go (over l cs w o e) = (too-long dg hb l cs w o, sym (at-is e))
 
-  faults-given : (n at : ℕ) → 3 ≤ n → lengthOk (length dg) ≡ true → FaultAfter (getD dg 0 0) n at (wordsOf dg) → read dg ≡ Wrong (refusedAt n at)
+  faults-given : (n at : ℕ) → 3 ≤ n → lengthOk (length dg) ≡ true → FaultAfter (getD dg 0 0) n at (wordsOf dg) → read dg ≡ Refused (refusedAt n at)
   unfolding read ended
   faults-given n at h l f =
-      let w : commandsFrom (getD dg 0 0) 0 0 (wordsOf dg) ≡ Wrong (refusedAt n (0 + length (openWords (getD dg 0 0) (f .good)))) =
+      let w : commandsFrom (getD dg 0 0) 0 0 (wordsOf dg) ≡ Refused (refusedAt n (0 + length (openWords (getD dg 0 0) (f .good)))) =
       rw (f .is) (walk-after (getD dg 0 0) 0 n (below-nth 256 dg 0 hb (omega arith)) (omega arith) (f .good) (f .tail) (f .fit) (f .fault)) in
       rw (l, w, f .place, zero-add at)
 
-  ten-given : TooLong dg → read dg ≡ Wrong (refusal 10)
+  ten-given : TooLong dg → read dg ≡ Refused (refusal 10)
   unfolding ended
   ten-given t = rw (t .is, read-asked (t .request) (t .asked), lt-leb _ _ (t .over))
 
-  two-given : lengthOk (length dg) ≡ false → read dg ≡ Wrong (refusal 2)
+  two-given : lengthOk (length dg) ≡ false → read dg ≡ Refused (refusal 2)
   unfolding read
   two-given l = rw l
 
@@ -207,7 +207,7 @@ module _ (dg : List ℕ) (hb : Bytes dg) where
       }
 
   -- "No refusal is 0"
-  pub refusal-range : (r : Refusal) → read dg ≡ Wrong r → (2 ≤ r .number) × (r .number ≤ 10)
+  pub refusal-range : (r : Refusal) → read dg ≡ Refused r → (2 ≤ r .number) × (r .number ≤ 10)
   refusal-range r m = go (why dg r hb m)
     where
       go : Why dg r → (2 ≤ r .number) × (r .number ≤ 10)

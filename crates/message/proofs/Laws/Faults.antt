@@ -11,13 +11,13 @@ use lib.ListN.{length, getD, drop}
 use lib.Seq.{getD-drop}
 use Rattle.header.specs.declared.refusal.Refusal.{Refusal}
 use Rattle.header.specs.declared.Kind.the-variants.{Write}
-use Rattle.header.specs.Header.{kindOf, wideOf, byte0Of, byte1Of, firstOf, finalOf, countOf, reservedOf, lastOf, bit, addressWords, bodyWords, headOf, endsOk}
+use Rattle.header.specs.Header.{kindOf, wideOf, byte0Of, byte1Of, firstField, lastField, countOf, reservedOf, lastOf, bit, addressWords, bodyWords, headOf, endsOk}
 use Rattle.header.specs.Refusal.{refusedAt}
-use Rattle.header.proofs.Laws.Refusals.{passed}
-use Rattle.message.specs.declared.walk.Step.the-variants.{Read, Refused}
-use Rattle.message.specs.Faults.{asks, countOk, gapsOk, firstOk, finalOk, gapless, patternOk, enablesOk, faultOf}
+use Rattle.header.proofs.Laws.Refusal.{passed}
+use Rattle.message.specs.declared.walk.Step.the-variants.{Read, Refused as RefusedStep}
+use Rattle.message.specs.Faults.{asks, countOk, gapsOk, firstFieldOk, lastFieldOk, gapless, patternOk, enablesOk, faultOf}
 use Rattle.message.specs.Walk.{stepOn, commandsFrom}
-use Rattle.message.specs.Request.{Reading, Wrong, Means, before}
+use Rattle.message.specs.Request.{Reading, Refused, Means, before}
 use Rattle.message.specs.Address.{addressFrom}
 
 -- what stands in a header without fault
@@ -72,7 +72,7 @@ pub short-faultless : (byte0 h left : ℕ) → kindOf byte0 ≡ Write → byte0O
 unfolding patternOk
 short-faultless byte0 h left kind same bits fits ends =
     let one : countOf h ≡ 1 = omega (arith, bits) in
-    let final : byte1Of h / 16 ≡ 0 = omega (arith, bits) in
+    let last : byte1Of h / 16 ≡ 0 = omega (arith, bits) in
     let high : h / 268435456 ≡ 8 * (h / 4096 / 524288) = sym (div-div-eq-div-mul h 4096 65536) ∙ omega (arith, bits) in
     let body : bodyWords byte0 (countOf h) ≡ addressWords byte0 + 1 = rw (kind, one) in (
       one,
@@ -82,7 +82,7 @@ short-faultless byte0 h left kind same bits fits ends =
             asking = rw kind;
             clear = rw high (mul-mod-right 8 _);
             counted = rw (kind, one);
-            enabled = rw (kind, one, final);
+            enabled = rw (kind, one, last);
             within = rw body fits;
             ends = rw body ends;
           }),
@@ -94,7 +94,7 @@ unfolding stepOn
 step-read byte0 at h left address e = rw (eq-eqb _ _ e)
 
 pub step-refused : (byte0 at h left address : ℕ) → (faultOf byte0 h left address ≡ 0 → ⊥)
-    → stepOn byte0 at h left address ≡ Refused (refusedAt (faultOf byte0 h left address) at)
+    → stepOn byte0 at h left address ≡ RefusedStep (refusedAt (faultOf byte0 h left address) at)
 unfolding stepOn
 step-refused byte0 at h left address e = rw (ne-eqb _ _ e)
 
@@ -106,10 +106,10 @@ abbrev pub SoundBefore : ℕ → ℕ → List ℕ → Type 0
 SoundBefore byte0 h rest = Sound byte0 h (length rest) (addressFrom (addressWords byte0) rest)
 
 -- a first field of E or F
-pub first-high : (n : ℕ) → 14 ≤ n → n < 16 → firstOk n ≡ true
-first-high n h k = go (eqb n 15) refl
+pub first-field-high : (n : ℕ) → 14 ≤ n → n < 16 → firstFieldOk n ≡ true
+first-field-high n h k = go (eqb n 15) refl
   where
-    go : (b : Bool) → eqb n 15 ≡ b → firstOk n ≡ true
+    go : (b : Bool) → eqb n 15 ≡ b → firstFieldOk n ≡ true
     go true z = rw (eqb-true n 15 z)
     go false z = let d = eqb-false n 15 z in let e : n ≡ 14 = omega arith in rw e
 
@@ -117,48 +117,48 @@ first-high n h k = go (eqb n 15) refl
 passes-some : (ok : ℕ → Bool) → ok 0 ≡ false → (n : ℕ) → ok n ≡ true → eqb n 0 ≡ false
 passes-some ok z n e = ne-eqb n 0 (λ q. false≢true (sym z ∙ ap ok (sym q) ∙ e))
 
-pub gapless-pattern : (count address first final : ℕ) → gapless first final ≡ true → not (eqb count 1) ≡ patternOk count address first final
+pub gapless-pattern : (count address first last : ℕ) → gapless first last ≡ true → not (eqb count 1) ≡ patternOk count address first last
 unfolding patternOk
-gapless-pattern count address first final e =
-    let f = and-eq-true-iff (firstOk first) (finalOk final) .0 e in
-    rw (e, passes-some firstOk refl first (f .0), passes-some finalOk refl final (f .1), or-true (gapsOk count address)) (go (eqb count 1))
+gapless-pattern count address first last e =
+    let f = and-eq-true-iff (firstFieldOk first) (lastFieldOk last) .0 e in
+    rw (e, passes-some firstFieldOk refl first (f .0), passes-some lastFieldOk refl last (f .1), or-true (gapsOk count address)) (go (eqb count 1))
   where
     go : (b : Bool) → not b ≡ cond b false true && true
     go true = refl
     go false = refl
 
 -- of a write's address the lowest word is enough: 2^32 is a multiple of 8
-pattern-low : (wide : Bool) (count first final : ℕ) (rest : List ℕ) → patternOk count (getD rest 0 0) first final ≡ patternOk count (addressFrom (1 + bit wide) rest) first final
+pattern-low : (wide : Bool) (count first last : ℕ) (rest : List ℕ) → patternOk count (getD rest 0 0) first last ≡ patternOk count (addressFrom (1 + bit wide) rest) first last
 unfolding patternOk addressFrom
-pattern-low false count first final rest = refl
-pattern-low true count first final rest =
+pattern-low false count first last rest = refl
+pattern-low true count first last rest =
     let e : (getD rest 0 0 + 4294967296 * getD rest 1 0) % 8 ≡ getD rest 0 0 % 8 = omega arith in
     rw e
 
 pub enables-low : (byte0 count byte1 at : ℕ) (ws : List ℕ) → kindOf byte0 ≡ Write
-    → patternOk count (getD ws at 0) (firstOf byte1) (finalOf byte1) ≡ enablesOk (kindOf byte0) count (addressFrom (addressWords byte0) (drop at ws)) byte1
+    → patternOk count (getD ws at 0) (firstField byte1) (lastField byte1) ≡ enablesOk (kindOf byte0) count (addressFrom (addressWords byte0) (drop at ws)) byte1
 enables-low byte0 count byte1 at ws kind =
     let low : getD (drop at ws) 0 0 ≡ getD ws at 0 = getD-drop at ws 0 0 ∙ ap (λ (n : ℕ). getD ws n 0) (add-zero at) in
-    rw (kind, ← low) (pattern-low (wideOf byte0) count (firstOf byte1) (finalOf byte1) (drop at ws))
+    rw (kind, ← low) (pattern-low (wideOf byte0) count (firstField byte1) (lastField byte1) (drop at ws))
 
 -- a refusal is no meaning
-pub no-mean : {A B : Type 0} {r : Refusal} {a : A} → Wrong r ≡ Means a → B
+pub no-mean : {A B : Type 0} {r : Refusal} {a : A} → Refused r ≡ Means a → B
 no-mean e = let z : _≡_ {A = ℕ} 0 1 = cc in absurd (omega arith)
 
-pub same-refusal : {A : Type 0} {q r : Refusal} → _≡_ {A = Reading A} (Wrong q) (Wrong r) → q ≡ r
+pub same-refusal : {A : Type 0} {q r : Refusal} → _≡_ {A = Reading A} (Refused q) (Refused r) → q ≡ r
 same-refusal e = cc
 
 -- a check that let a reading by
-pub past : {A : Type 0} (ok : Bool) (r : Refusal) (x : Reading A) {a : A} → cond ok x (Wrong r) ≡ Means a → (ok ≡ true) × (x ≡ Means a)
+pub past : {A : Type 0} (ok : Bool) (r : Refusal) (x : Reading A) {a : A} → cond ok x (Refused r) ≡ Means a → (ok ≡ true) × (x ≡ Means a)
 past true r x e = (refl, e)
 past false r x e = no-mean e
 
 pub before-is : {A : Type 0} (c : A) (p : Reading (List A)) (cs : List A) → before c p ≡ Means cs → (ds : List A) × (p ≡ Means ds) × (cs ≡ c ∷ ds)
-before-is c (Wrong r) cs e = no-mean e
+before-is c (Refused r) cs e = no-mean e
 before-is c (Means ds) cs e = (ds, refl, (cc))
 
-pub before-wrong : {A : Type 0} (c : A) (p : Reading (List A)) {r : Refusal} → before c p ≡ Wrong r → p ≡ Wrong r
-before-wrong c (Wrong r) e = e
+pub before-wrong : {A : Type 0} (c : A) (p : Reading (List A)) {r : Refusal} → before c p ≡ Refused r → p ≡ Refused r
+before-wrong c (Refused r) e = e
 before-wrong c (Means ds) e = let z : _≡_ {A = ℕ} 0 1 = cc in absurd (omega arith)
 
 -- skipped words are dropped

@@ -17,21 +17,21 @@ use Rattle.header.specs.declared.refusal.Refusal.{Refusal}
 use Rattle.header.specs.Limits.{limit, lengthOk}
 use Rattle.header.specs.Header.{kindOf, countOf, addressWords, bodyWords, replyWords, headOf}
 use Rattle.header.specs.Refusal.{refusedAt, refusal}
-use Rattle.header.proofs.Laws.Headers.{reply-le}
-use Rattle.header.proofs.Laws.Lengths.{Right, right}
+use Rattle.header.proofs.Laws.Header.{reply-le}
+use Rattle.header.proofs.Laws.Limits.{Right, right}
 use Rattle.message.specs.declared.walk.Step.{Step}
-use Rattle.message.specs.declared.walk.Step.the-variants.{Read, Refused}
-use Rattle.message.specs.declared.walk.Walked.the-variants.{WellFormed, Malformed}
+use Rattle.message.specs.declared.walk.Step.the-variants.{Read, Refused as RefusedStep}
+use Rattle.message.specs.declared.walk.Walked.the-variants.{WellFormed, Refused as RefusedWalk}
 use Rattle.message.specs.Faults.{faultOf}
 use Rattle.message.specs.Walk.{stepOn, commandOf, turn, commandsFrom, stepAt, ended, endOf, finish, walked, read, walkOf}
-use Rattle.message.specs.Request.{Command, Request, Reading, Wrong, Means, before, replies}
+use Rattle.message.specs.Request.{Command, Request, Reading, Refused, Means, before, replies}
 use Rattle.message.specs.Address.{addressFrom}
 use Rattle.message.proofs.Laws.Faults.{sound, skipped, past}
 use Rattle.message.proofs.Laws.Back.{ended-is}
 
 -- a step whose words behind it read the same
 turn-same : (s : Step) (c : Command) (f g : ℕ → Reading (List Command)) → ((n : ℕ) → f n ≡ g n) → turn s c f ≡ turn s c g
-turn-same (Refused r) c f g h = refl
+turn-same (RefusedStep r) c f g h = refl
 turn-same (Read d) c f g h = rw (h (d .body))
 
 -- a step by its position
@@ -45,7 +45,7 @@ unrolled byte0 ws at = go (ltb at (length ws)) refl
 
     go : (b : Bool) → ltb at (length ws) ≡ b
         → commandsFrom byte0 at 0 (drop at ws)
-        ≡ turn (cond b (stepOn byte0 at (getD ws at 0) (length ws - at - 1) address) (Refused (refusedAt 3 at))) (commandOf byte0 (getD ws at 0) (drop (at + 1) ws)) (λ n. commandsFrom byte0 (at + 1 + n) 0 (drop (at + 1 + n) ws))
+        ≡ turn (cond b (stepOn byte0 at (getD ws at 0) (length ws - at - 1) address) (RefusedStep (refusedAt 3 at))) (commandOf byte0 (getD ws at 0) (drop (at + 1) ws)) (λ n. commandsFrom byte0 (at + 1 + n) 0 (drop (at + 1 + n) ws))
     go false z = rw (drop-of-length-le ws (ltb-false at (length ws) z))
     go true z =
         let l = ltb-true at (length ws) z in
@@ -68,7 +68,7 @@ got byte0 ws at d e = go (ltb at (length ws)) refl (eqb fault 0) refl e
     fault = faultOf byte0 (getD ws at 0) (length ws - at - 1) (addressFrom (addressWords byte0) (drop (at + 1) ws))
 
     go : (a : Bool) → ltb at (length ws) ≡ a → (b : Bool) → eqb fault 0 ≡ b
-        → cond a (cond b (Read (headOf byte0 (getD ws at 0))) (Refused (refusedAt fault at))) (Refused (refusedAt 3 at)) ≡ Read d
+        → cond a (cond b (Read (headOf byte0 (getD ws at 0))) (RefusedStep (refusedAt fault at))) (RefusedStep (refusedAt 3 at)) ≡ Read d
         → Got byte0 ws at d
     go false z b y e = let n : _≡_ {A = ℕ} 0 1 = cc in absurd (omega arith)
     go true z false y e = let n : _≡_ {A = ℕ} 0 1 = cc in absurd (omega arith)
@@ -82,7 +82,7 @@ got byte0 ws at d e = go (ltb at (length ws)) refl (eqb fault 0) refl e
 finish-before : (byte0 answer : ℕ) (c : Command) (p : Reading (List Command))
     → finish byte0 answer (before c p) ≡ finish byte0 (answer + 1 + replyWords (kindOf byte0) (c .count)) p
 unfolding finish replies
-finish-before byte0 answer c (Wrong r) = refl
+finish-before byte0 answer c (Refused r) = refl
 finish-before byte0 answer c (Means cs) =
     let e : answer + (1 + replyWords (kindOf byte0) (c .count) + replies byte0 cs) ≡ answer + 1 + replyWords (kindOf byte0) (c .count) + replies byte0 cs = omega arith in
     rw e
@@ -110,7 +110,7 @@ module _ {byte0 : ℕ} {ws : List ℕ} {at answer : ℕ} (g : Going byte0 ws at 
       ≡ finish byte0 0 (commandsFrom byte0 0 0 ws)
   on = ap (finish byte0 answer) (sym (unrolled byte0 ws at)) ∙ g .same
 
-  pub going-refused : (r : Refusal) → stepAt byte0 ws at ≡ Refused r → Malformed r ≡ finish byte0 0 (commandsFrom byte0 0 0 ws)
+  pub going-refused : (r : Refusal) → stepAt byte0 ws at ≡ RefusedStep r → RefusedWalk r ≡ finish byte0 0 (commandsFrom byte0 0 0 ws)
   unfolding finish
   going-refused r e = rw e at on
 
@@ -122,7 +122,7 @@ module _ {byte0 : ℕ} {ws : List ℕ} {at answer : ℕ} (g : Going byte0 ws at 
     unfolding commandOf
     count-is = rw (got byte0 ws at d e .counted)
 
-    pub going-last : d .last ≡ true → endOf (answer + 1 + reply) ≡ finish byte0 0 (commandsFrom byte0 0 0 ws)
+    pub going-last : d .last ≡ true → endOf byte0 (answer + 1 + reply) ≡ finish byte0 0 (commandsFrom byte0 0 0 ws)
     unfolding finish replies
     going-last l =
         let q : answer + (1 + replyWords (kindOf byte0) (commandOf byte0 (getD ws at 0) (drop (at + 1) ws) .count) + 0) ≡ answer + 1 + reply = omega (arith, count-is) in
@@ -146,17 +146,17 @@ module _ {byte0 : ℕ} {ws : List ℕ} {at answer : ℕ} (g : Going byte0 ws at 
 -- what the walk tells is what the datagram reads as
 pub walked-ended : (byte0 : ℕ) (p : Reading (List Command)) → finish byte0 0 p ≡ walked (ended byte0 p)
 unfolding ended finish endOf
-walked-ended byte0 (Wrong r) = refl
+walked-ended byte0 (Refused r) = refl
 walked-ended byte0 (Means cs) =
     let z : 0 + replies byte0 cs ≡ replies byte0 cs = omega arith in
     rw z (go (leb (replies byte0 cs) limit))
   where
-    go : (b : Bool) → cond b (WellFormed (replies byte0 cs)) (Malformed (refusal 10)) ≡ walked (cond {A = Reading Request} b (Means (record { byte0 = byte0; commands = cs })) (Wrong (refusal 10)))
+    go : (b : Bool) → cond b (WellFormed byte0) (RefusedWalk (refusal 10)) ≡ walked (cond {A = Reading Request} b (Means (record { byte0 = byte0; commands = cs })) (Refused (refusal 10)))
     go true = refl
     go false = refl
 
 -- the whole walk, by the datagram's length
-pub walk-long : (dg : List ℕ) → lengthOk (length dg) ≡ false → Malformed (refusal 2) ≡ walkOf dg
+pub walk-long : (dg : List ℕ) → lengthOk (length dg) ≡ false → RefusedWalk (refusal 2) ≡ walkOf dg
 unfolding walkOf read
 walk-long dg e = rw e
 
@@ -165,25 +165,25 @@ unfolding walkOf read
 walk-whole dg byte0 l e = rw (l, e) (walked-ended (getD dg 0 0) (commandsFrom (getD dg 0 0) 0 0 (wordsOf dg)))
 
 -- what a walk that lets by means, and one that refuses
-pub record Meant (dg : List ℕ) (answer : ℕ) : Type 0 where
+pub record Meant (dg : List ℕ) (byte0 : ℕ) : Type 0 where
   pub meaning : Request
   pub is : read dg ≡ Means meaning
-  pub answers : answer ≡ replies (meaning .byte0) (meaning .commands)
+  pub first : byte0 ≡ meaning .byte0
 
-pub walk-means : (dg : List ℕ) (answer : ℕ) → walkOf dg ≡ WellFormed answer → Meant dg answer
+pub walk-means : (dg : List ℕ) (byte0 : ℕ) → walkOf dg ≡ WellFormed byte0 → Meant dg byte0
 unfolding walkOf
-walk-means dg answer e = go (read dg) refl e
+walk-means dg byte0 e = go (read dg) refl e
   where
-    go : (p : Reading Request) → read dg ≡ p → walked p ≡ WellFormed answer → Meant dg answer
-    go (Wrong r) z x = let n : _≡_ {A = ℕ} 0 1 = cc in absurd (omega arith)
-    go (Means r) z x = record { meaning = r; is = z; answers = cc }
+    go : (p : Reading Request) → read dg ≡ p → walked p ≡ WellFormed byte0 → Meant dg byte0
+    go (Refused r) z x = let n : _≡_ {A = ℕ} 0 1 = cc in absurd (omega arith)
+    go (Means r) z x = record { meaning = r; is = z; first = cc }
 
-pub walk-wrong : (dg : List ℕ) (r : Refusal) → walkOf dg ≡ Malformed r → read dg ≡ Wrong r
+pub walk-wrong : (dg : List ℕ) (r : Refusal) → walkOf dg ≡ RefusedWalk r → read dg ≡ Refused r
 unfolding walkOf
 walk-wrong dg r e = go (read dg) refl e
   where
-    go : (p : Reading Request) → read dg ≡ p → walked p ≡ Malformed r → read dg ≡ Wrong r
-    go (Wrong q) z x = let n : q ≡ r = cc in z ∙ ap Wrong n
+    go : (p : Reading Request) → read dg ≡ p → walked p ≡ RefusedWalk r → read dg ≡ Refused r
+    go (Refused q) z x = let n : q ≡ r = cc in z ∙ ap Refused n
     go (Means m) z x = let n : _≡_ {A = ℕ} 0 1 = cc in absurd (omega arith)
 
 -- an accepted datagram has a right length, and its first byte is the request's byte 0

@@ -12,8 +12,8 @@ use Rattle.word.proofs.Crossing.{words-back, bytes-below}
 use Rattle.header.specs.Header.{kindOf, headerFrom, replyWords, addressWords}
 use Rattle.header.specs.Limits.{lengthOk, limit}
 use Rattle.header.specs.Refusal.{refusedAt, refusal}
-use Rattle.header.proofs.Laws.Headers.{byte0-back}
-use Rattle.message.specs.Request.{Command, All, replies, none, Wrong, commandWords, requestWords, written, FitsCommand}
+use Rattle.header.proofs.Laws.Header.{byte0-back}
+use Rattle.message.specs.Request.{Command, All, replies, none, Refused, commandWords, requestWords, written, FitsCommand}
 use Rattle.message.specs.Address.{addressIn}
 use Rattle.message.specs.Walk.{read}
 use Rattle.message.specs.Faults.{asks, gapless, patternOk}
@@ -118,7 +118,7 @@ module _ (byte0 : ℕ) (hb : byte0 < 256) where
   open-some (c ∷ cs) h = omega arith
 
   open-three : (cs : List Command) → none cs ≡ false → All (FitsCommand byte0) cs → length (openWords byte0 cs) ≤ limit
-      → read (bytesOf (openWords byte0 cs)) ≡ Wrong (refusedAt 3 (length (openWords byte0 cs)))
+      → read (bytesOf (openWords byte0 cs)) ≡ Refused (refusedAt 3 (length (openWords byte0 cs)))
   unfolding faultIn
   open-three cs h f k =
       let ws : List ℕ = openWords byte0 cs in
@@ -128,7 +128,7 @@ module _ (byte0 : ℕ) (hb : byte0 < 256) where
 
   -- commands none of which is LAST are refused: 2 where there are none, else 3 behind them
   pub open-refused : (cs : List Command) → All (FitsCommand byte0) cs → length (openWords byte0 cs) ≤ limit
-      → read (bytesOf (openWords byte0 cs)) ≡ Wrong (cond (none cs) (refusal 2) (refusedAt 3 (length (openWords byte0 cs))))
+      → read (bytesOf (openWords byte0 cs)) ≡ Refused (cond (none cs) (refusal 2) (refusedAt 3 (length (openWords byte0 cs))))
   unfolding read lengthOk openWords bytesOf
   open-refused [] f k = refl
   open-refused (c ∷ cs) f k = open-three (c ∷ cs) refl f k

@@ -12,8 +12,8 @@ use Rattle.word.proofs.Runs.{below-append, length-bytes}
 use Rattle.word.proofs.Crossing.{words-back}
 use Rattle.header.specs.Limits.{limit, lengthOk}
 use Rattle.header.specs.Header.{kindOf, byte1Of, countOf, headerFrom, addressWords, bodyWords, headOf, endsOk}
-use Rattle.header.proofs.Laws.Headers.{byte0-back, byte1-back, count-back, reserved-back, last-back, header-lt, address-le}
-use Rattle.header.proofs.Laws.Lengths.{length-fits}
+use Rattle.header.proofs.Laws.Header.{byte0-back, byte1-back, count-back, reserved-back, last-back, header-lt, address-le}
+use Rattle.header.proofs.Laws.Limits.{length-fits}
 use Rattle.message.specs.declared.walk.Step.the-variants.{Read}
 use Rattle.message.specs.Faults.{asks}
 use Rattle.message.specs.Walk.{stepOn, commandOf, commandsFrom, ended, read}

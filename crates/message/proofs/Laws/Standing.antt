@@ -9,7 +9,7 @@ use lib.Seq.{take-at, drop-at, drop-drop, getD-drop}
 use Rattle.word.specs.Words.{wordsOf, Bytes}
 use Rattle.word.proofs.Crossing.{words-back}
 use Rattle.header.specs.Header.{kindOf, byte1Of, countOf, lastOf, headerFrom, addressWords, dataWords, bodyWords}
-use Rattle.header.proofs.Laws.Headers.{byte1-back, count-back, last-back, address-le}
+use Rattle.header.proofs.Laws.Header.{byte1-back, count-back, last-back, address-le}
 use Rattle.message.specs.Request.{Command, Request, Means, commandWords, none, requestWords, written, FitsCommand, All}
 use Rattle.message.specs.Address.{addressFrom, addressIn}
 use Rattle.message.specs.Walk.{read}

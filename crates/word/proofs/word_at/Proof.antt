@@ -8,20 +8,20 @@ use Rattle.word.proofs.word_at.Tie as tie
 mul-at : tie.Need-mul-at
 mul-at c = search needs
 
-shared-slice-read-wide : tie.Need-shared-slice-read-wide
-shared-slice-read-wide c = search needs
+shared-slice-read-from-byte : tie.Need-shared-slice-read-from-byte
+shared-slice-read-from-byte c = search needs
 
-wide-requires : tie.Need-wide-requires
-wide-requires c κs = search needs
+from-byte-requires : tie.Need-from-byte-requires
+from-byte-requires c κs = search needs
 
-add-wide : tie.Need-add-wide
-add-wide c = search needs
+add-from-byte : tie.Need-add-from-byte
+add-from-byte c = search needs
 
-shared-slice-read-wide-2 : tie.Need-shared-slice-read-wide-2
-shared-slice-read-wide-2 c = search needs
+shared-slice-read-from-byte-2 : tie.Need-shared-slice-read-from-byte-2
+shared-slice-read-from-byte-2 c = search needs
 
-wide-requires-2 : tie.Need-wide-requires-2
-wide-requires-2 c κs = search needs
+from-byte-requires-2 : tie.Need-from-byte-requires-2
+from-byte-requires-2 c κs = search needs
 
 mul-result : tie.Need-mul-result
 mul-result c = search needs
@@ -29,14 +29,14 @@ mul-result c = search needs
 add-result : tie.Need-add-result
 add-result c = search needs
 
-add-wide-2 : tie.Need-add-wide-2
-add-wide-2 c = search needs
+add-from-byte-2 : tie.Need-add-from-byte-2
+add-from-byte-2 c = search needs
 
-shared-slice-read-wide-3 : tie.Need-shared-slice-read-wide-3
-shared-slice-read-wide-3 c = search needs
+shared-slice-read-from-byte-3 : tie.Need-shared-slice-read-from-byte-3
+shared-slice-read-from-byte-3 c = search needs
 
-wide-requires-3 : tie.Need-wide-requires-3
-wide-requires-3 c κs = search needs
+from-byte-requires-3 : tie.Need-from-byte-requires-3
+from-byte-requires-3 c κs = search needs
 
 mul-result-2 : tie.Need-mul-result-2
 mul-result-2 c = search needs
@@ -44,14 +44,14 @@ mul-result-2 c = search needs
 add-result-2 : tie.Need-add-result-2
 add-result-2 c = search needs
 
-add-wide-3 : tie.Need-add-wide-3
-add-wide-3 c = search needs
+add-from-byte-3 : tie.Need-add-from-byte-3
+add-from-byte-3 c = search needs
 
-shared-slice-read-wide-4 : tie.Need-shared-slice-read-wide-4
-shared-slice-read-wide-4 c = search needs
+shared-slice-read-from-byte-4 : tie.Need-shared-slice-read-from-byte-4
+shared-slice-read-from-byte-4 c = search needs
 
-wide-requires-4 : tie.Need-wide-requires-4
-wide-requires-4 c κs = search needs
+from-byte-requires-4 : tie.Need-from-byte-requires-4
+from-byte-requires-4 c κs = search needs
 
 mul-result-3 : tie.Need-mul-result-3
 mul-result-3 c = search needs
@@ -69,21 +69,21 @@ word-at-spec =
     tie.close
     (tie.spec
     mul-at
-    shared-slice-read-wide
-    wide-requires
-    add-wide
-    shared-slice-read-wide-2
-    wide-requires-2
+    shared-slice-read-from-byte
+    from-byte-requires
+    add-from-byte
+    shared-slice-read-from-byte-2
+    from-byte-requires-2
     mul-result
     add-result
-    add-wide-2
-    shared-slice-read-wide-3
-    wide-requires-3
+    add-from-byte-2
+    shared-slice-read-from-byte-3
+    from-byte-requires-3
     mul-result-2
     add-result-2
-    add-wide-3
-    shared-slice-read-wide-4
-    wide-requires-4
+    add-from-byte-3
+    shared-slice-read-from-byte-4
+    from-byte-requires-4
     mul-result-3
     add-result-3
     returns)

@@ -1,6 +1,6 @@
 -- `building::asked::byte1_by` meets its contract: two fields of four bits. Assumes nothing.
 use native.Mathlib.Omega.{arith}
-use Rattle.building.proofs.Laws.Passed.{fields-lt}
+use Rattle.building.proofs.Inner.Passed.{fields-lt}
 use borrow.Author.Needs.{needs}
 use Rattle.building.proofs.asked.byte1_by.Statement.{statement}
 use Rattle.building.proofs.asked.byte1_by.Tie as tie

@@ -1,6 +1,6 @@
 -- `building::asked::command_fault` meets its contract: each check is a line of `commandFault`, in its order. Assumes nothing.
 use Rattle.word.proofs.Rules.{flag-on, flag-off}
-use Rattle.building.proofs.Laws.Passed.{count-twelve}
+use Rattle.building.proofs.Inner.Passed.{count-twelve}
 use Rattle.building.specs.Asked.{commandFault}
 use borrow.Author.Needs.{needs}
 use Rattle.building.proofs.asked.command_fault.Statement.{statement}

@@ -1,5 +1,5 @@
 -- `building::build::add` meets its contract: refused, or put. Assumes nothing.
-use Rattle.building.proofs.Laws.Calls.{add-refused, add-taken}
+use Rattle.building.proofs.Inner.Placing.{add-refused, add-taken}
 use borrow.Author.Needs.{needs}
 use Rattle.building.proofs.build.add.Statement.{statement}
 use Rattle.building.proofs.build.add.Tie as tie

@@ -1,7 +1,7 @@
 -- `building::build::add_fault` meets its contract: each check is a line of `addFault`, in its order. Assumes nothing.
 use Rattle.word.proofs.Rules.{flag-on, flag-off}
-use Rattle.building.proofs.Laws.Passed.{usable-bounded}
-use Rattle.building.proofs.Laws.Calls.{add-open}
+use Rattle.building.proofs.Inner.Passed.{usable-bounded}
+use Rattle.building.proofs.Inner.Placing.{add-open}
 use Rattle.building.specs.Build.{addFault}
 use borrow.Author.Needs.{needs}
 use Rattle.building.proofs.build.add_fault.Statement.{statement}

@@ -1,9 +1,9 @@
 -- `building::build::close` meets its contract: refused, or LAST set. Assumes nothing.
 use lib.ListN.{length}
-use Rattle.building.proofs.Laws.Calls.{close-refused, close-taken}
+use Rattle.building.proofs.Inner.Placing.{close-refused, close-taken}
 use mathlib.Core.Path.{_∙_, sym}
 use native.Mathlib.Omega.{arith}
-use Rattle.building.proofs.Laws.Passed.{closes}
+use Rattle.building.proofs.Inner.Passed.{closes}
 use borrow.Author.Needs.{needs}
 use Rattle.building.proofs.build.close.Statement.{statement}
 use Rattle.building.proofs.build.close.Tie as tie

@@ -3,8 +3,8 @@ use lib.ListN.{length}
 use lib.Seq.{length-take-le}
 use mathlib.Core.Path.{sym}
 use native.Mathlib.Omega.{arith}
-use Rattle.building.proofs.Laws.Passed.{adds}
-use Rattle.building.proofs.Laws.Calls.{placed-header, placed-address, placed-room, placed-bytes, placed-record}
+use Rattle.building.proofs.Inner.Passed.{adds}
+use Rattle.building.proofs.Inner.Placing.{placed-header, placed-address, placed-room, placed-bytes, placed-record}
 use borrow.Author.Needs.{needs}
 use Rattle.building.proofs.build.place.Statement.{statement}
 use Rattle.building.proofs.build.place.Tie as tie

@@ -1,5 +1,5 @@
 -- `building::build::put_command` meets its contract: three runs, one behind the other. Assumes nothing.
-use Rattle.building.proofs.Laws.Calls.{put-pieces}
+use Rattle.building.proofs.Inner.Placing.{put-pieces}
 use borrow.Author.Needs.{needs}
 use Rattle.building.proofs.build.put_command.Statement.{statement}
 use Rattle.building.proofs.build.put_command.Tie as tie

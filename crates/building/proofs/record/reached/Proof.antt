@@ -1,7 +1,7 @@
 -- `building::record::reached` meets its contract: begin's four, then nothing added or something. Assumes nothing.
 use borrow.Author.Tests.{eq-eqb, ne-eqb}
 use Rattle.word.proofs.Rules.{flag-on, flag-off}
-use Rattle.building.proofs.Laws.Passed.{start-tag}
+use Rattle.building.proofs.Inner.Passed.{start-tag}
 use Rattle.building.specs.Record.{reachable}
 use borrow.Author.Needs.{needs}
 use Rattle.building.proofs.record.reached.Statement.{statement}

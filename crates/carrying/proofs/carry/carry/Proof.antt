@@ -6,14 +6,14 @@ use native.Mathlib.Omega.{arith}
 use lib.ListN.{length}
 use Rattle.word.specs.Words.{wordsOf}
 use Rattle.word.proofs.Runs.{below-all}
-use Rattle.message.specs.Walk.{asked}
-use Rattle.carrying.proofs.Laws.Underway.{Underway, starts, here-at, ends, short, goes, nearer}
+use Rattle.message.specs.Walk.{requestOf}
+use Rattle.carrying.proofs.Inner.Underway.{Underway, starts, here-at, ends, short, goes, nearer}
 use Rattle.carrying.proofs.carry.carry.Statement.{statement}
 use Rattle.carrying.proofs.carry.carry.Tie as tie
 
 abbrev Inv-loop : tie.InvT-loop
 Inv-loop memory₀ stored₀ output₀ datagram byte0 mark keep task at₀ n₀ memory stored output at n =
-    Underway task (asked datagram) (wordsOf datagram) memory₀ stored₀ output₀ memory stored output at n
+    Underway task (requestOf datagram) (wordsOf datagram) memory₀ stored₀ output₀ memory stored output at n
     × (length memory ≡ length memory₀) × (length stored ≡ length stored₀) × (length output ≡ length output₀)
 
 abbrev μ-loop : tie.MeasureT-loop
@@ -31,7 +31,7 @@ loop-holds c =
     let dg = a .args .datagram .now in
     let k = c .before in
     let b = c .answer-byte .ensures in (
-      starts (asked dg) dg (a .args .memory .now) (a .args .stored .now) (a .args .output .now)
+      starts (requestOf dg) dg (a .args .memory .now) (a .args .stored .now) (a .args .output .now)
           (record { byte0 = a .pre .1; kind = k .kind-of .ensures; answer = b .0; small = b .1 }) (a .pre .2)
           (below-all 256 dg (λ i. omega (arith, k .before .shared-slice-known .given i))) (a .pre .0),
       refl,

@@ -7,7 +7,7 @@ use lib.ListN.{getD}
 use Rattle.word.specs.Words.{wordsOf}
 use Rattle.header.specs.declared.Kind.the-variants.{Nop}
 use Rattle.header.specs.Header.{countOf, lastOf}
-use Rattle.carrying.proofs.Laws.OneCommand.{Fitting, fitting, did-nop}
+use Rattle.carrying.proofs.Inner.OneCommand.{Fitting, fitting, did-nop}
 use borrow.Author.Needs.{needs}
 use Rattle.carrying.proofs.carry.carry_nop.Statement.{statement}
 use Rattle.carrying.proofs.carry.carry_nop.Tie as tie

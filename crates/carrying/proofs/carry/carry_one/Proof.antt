@@ -1,6 +1,6 @@
 -- `carrying::carry::carry_one` meets its contract: each kind has its own function, and no request is a response. Assumes nothing.
 use mathlib.Core.Path.{refl}
-use Rattle.carrying.proofs.Laws.OneCommand.{fitting}
+use Rattle.carrying.proofs.Inner.OneCommand.{fitting}
 use borrow.Author.Needs.{needs}
 use Rattle.carrying.proofs.carry.carry_one.Statement.{statement}
 use Rattle.carrying.proofs.carry.carry_one.Tie as tie

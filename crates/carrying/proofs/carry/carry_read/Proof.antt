@@ -8,7 +8,7 @@ use Rattle.word.specs.Words.{wordsOf}
 use Rattle.header.specs.declared.Kind.the-variants.{Read}
 use Rattle.header.specs.Header.{countOf, lastOf}
 use Rattle.memory.proofs.Laws.Moving.{within, read-part}
-use Rattle.carrying.proofs.Laws.OneCommand.{Fitting, fitting, failed-there, did-read}
+use Rattle.carrying.proofs.Inner.OneCommand.{Fitting, fitting, failed-there, did-read}
 use borrow.Author.Needs.{needs}
 use Rattle.carrying.proofs.carry.carry_read.Statement.{statement}
 use Rattle.carrying.proofs.carry.carry_read.Tie as tie

@@ -8,7 +8,7 @@ use Rattle.word.specs.Words.{wordsOf}
 use Rattle.header.specs.declared.Kind.the-variants.{Write}
 use Rattle.header.specs.Header.{countOf, lastOf, byte1Of}
 use Rattle.memory.proofs.Laws.Moving.{within}
-use Rattle.carrying.proofs.Laws.OneCommand.{Fitting, fitting, failed-there, did-write}
+use Rattle.carrying.proofs.Inner.OneCommand.{Fitting, fitting, failed-there, did-write}
 use borrow.Author.Needs.{needs}
 use Rattle.carrying.proofs.carry.carry_write.Statement.{statement}
 use Rattle.carrying.proofs.carry.carry_write.Tie as tie

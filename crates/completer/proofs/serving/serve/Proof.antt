@@ -1,7 +1,7 @@
 -- `completer::serving::serve` meets its contract: the verdict decides. Assumes nothing.
 use mathlib.Core.Path.{sym, _∙_}
-use Rattle.message.specs.Walk.{asked}
-use Rattle.completer.proofs.Laws.Verdicts.{carrying, again-fits, served-carried, served-by}
+use Rattle.message.specs.Walk.{requestOf}
+use Rattle.completer.proofs.Inner.Verdicts.{carrying, again-fits, served-carried, served-by}
 use borrow.Author.Needs.{needs}
 use Rattle.completer.proofs.serving.serve.Statement.{statement}
 use Rattle.completer.proofs.serving.serve.Tie as tie
@@ -30,7 +30,7 @@ same-length-3 : tie.Need-same-length-3
 same-length-3 c = search needs
 
 returns : tie.Need-returns
-returns c = served-carried (c .before .before .before .before .before .before .before .before .before .before .before .before .before .verdict-of .ensures) (sym (c .before .before .before .before .before .before .before .before .before .before .before .before .carries .ensures) ∙ c .before .before .before .before .before .before .before .before .before .before .before .if1 .taken) (c .before .before .before .before .before .before .before .keeps .ensures) (c .before .before .before .before .before .before .act .ensures)
+returns c = served-carried _ _ _ (c .before .before .before .before .before .before .before .before .before .before .before .before .before .verdict-of .ensures) (sym (c .before .before .before .before .before .before .before .before .before .before .before .before .carries .ensures) ∙ c .before .before .before .before .before .before .before .before .before .before .before .if1 .taken) (c .before .before .before .before .before .before .before .keeps .ensures) (c .before .before .before .before .before .before .act .ensures)
 
 settle-requires : tie.Need-settle-requires
 settle-requires c κs =
@@ -44,7 +44,7 @@ same-length-5 : tie.Need-same-length-5
 same-length-5 c = search needs
 
 returns-2 : tie.Need-returns-2
-returns-2 c = served-by (c .before .before .before .before .before .before .before .verdict-of .ensures) (c .before .before .settle .ensures (c .before .before .before .before .before .before .before .before .before .before .before .before .args .memory .now) (asked (c .before .before .before .before .before .before .before .before .before .before .before .before .args .datagram .now)))
+returns-2 c = served-by _ _ _ (c .before .before .before .before .before .before .before .verdict-of .ensures) (c .before .before .settle .ensures (c .before .before .before .before .before .before .before .before .before .before .before .before .args .memory .now) (requestOf (c .before .before .before .before .before .before .before .before .before .before .before .before .args .datagram .now)))
 
 pub serve-spec : {M : Type 1} → statement M
 serve-spec =

@@ -1,7 +1,7 @@
 -- `completer::verdict::judge` meets its contract: the walk's refusal, or the rule of tags. Assumes nothing.
 use mathlib.Core.Path.{sym, _∙_}
-use Rattle.message.proofs.Laws.Going.{walk-means, walk-wrong, read-first}
-use Rattle.completer.proofs.Laws.Verdicts.{judged-wrong, judged-means}
+use Rattle.message.proofs.Laws.Going.{walk-means, walk-wrong}
+use Rattle.completer.proofs.Inner.Verdicts.{judged-wrong, judged-means}
 use borrow.Author.Needs.{needs}
 use Rattle.completer.proofs.verdict.judge.Statement.{statement}
 use Rattle.completer.proofs.verdict.judge.Tie as tie
@@ -12,17 +12,8 @@ walk-requires c κs = search needs
 enum-known-walked : tie.Need-enum-known-walked
 enum-known-walked c = search needs
 
-enum-told : tie.Need-enum-told
-enum-told c = search needs
-
-shared-slice-read-wide : tie.Need-shared-slice-read-wide
-shared-slice-read-wide c =
-    let dg = c .before .before .before .before .before .args .datagram .now in
-    let w = walk-means dg _ (sym (c .before .before .before .walk .ensures) ∙ c .before .enum-told .given .1) in
-    read-first dg _ (w .is) .0 .some
-
-wide-requires : tie.Need-wide-requires
-wide-requires c κs = search needs
+enum-known-walked-2 : tie.Need-enum-known-walked-2
+enum-known-walked-2 c = search needs
 
 rule-requires : tie.Need-rule-requires
 rule-requires c κs = search needs
@@ -32,9 +23,10 @@ returns c = judged-wrong _ (c .before .before .before .before .before .args .dat
 
 returns-2 : tie.Need-returns-2
 returns-2 c =
-    let dg = c .before .before .before .before .before .before .before .args .datagram .now in
-    let w = walk-means dg _ (sym (c .before .before .before .before .before .walk .ensures) ∙ c .before .before .before .enum-told .given .1) in
-    judged-means _ dg (w .is) (c .before .wide .ensures .0 ∙ read-first dg _ (w .is) .1) (c .rule .ensures)
+    let k = c .before .before in
+    let dg = k .before .before .before .before .args .datagram .now in
+    let w = walk-means dg _ (sym (k .before .before .walk .ensures) ∙ k .walked2 .given .1) in
+    judged-means _ dg (w .is) (w .first) (c .rule .ensures)
 
 pub judge-spec : {M : Type 1} → statement M
 judge-spec =
@@ -42,9 +34,7 @@ judge-spec =
     (tie.spec
     walk-requires
     enum-known-walked
-    enum-told
-    shared-slice-read-wide
-    wide-requires
+    enum-known-walked-2
     rule-requires
     returns
     returns-2)

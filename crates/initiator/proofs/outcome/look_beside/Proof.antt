@@ -1,5 +1,5 @@
 -- `initiator::outcome::look_beside` meets its contract, by the header read. Assumes nothing.
-use Rattle.initiator.specs.Outcome.{lookBeside}
+use Rattle.initiator.specs.Telling.{lookBeside}
 use borrow.Author.Needs.{needs}
 use Rattle.initiator.proofs.outcome.look_beside.Statement.{statement}
 use Rattle.initiator.proofs.outcome.look_beside.Tie as tie

@@ -11,8 +11,9 @@ use Rattle.answer.specs.declared.Look.the-variants.{Item}
 use Rattle.header.specs.Header.{kindOf}
 use Rattle.message.specs.Walk.{read}
 use Rattle.answer.specs.Answer.{badOf}
-use Rattle.initiator.specs.Outcome.{refusedWith, toldOf, lookBeside, answersTo}
-use Rattle.initiator.proofs.Laws.Telling.{Sides, next, sides-starts, sides-bad, sides-found, sides-last, sides-next}
+use Rattle.initiator.specs.Outcome.{toldOf}
+use Rattle.initiator.specs.Telling.{refusedWith, lookBeside, answersTo}
+use Rattle.initiator.proofs.Inner.Sides.{Sides, next, sides-starts, sides-bad, sides-found, sides-last, sides-next}
 use Rattle.initiator.proofs.outcome.look_through.Statement.{statement}
 use Rattle.initiator.proofs.outcome.look_through.Tie as tie
 
@@ -25,7 +26,7 @@ abbrev μ-loop : tie.MeasureT-loop
 -- the arguments, the loop's place, and the answer that was read there
 module _ (c : tie.At-loop Inv-loop μ-loop) where
   abbrev entry : tie.Start Inv-loop μ-loop
-  entry = c .before .before .before .before
+  entry = c .before .before .before .before .before
 
   inside : 4 * (c .loop .at) + 4 ≤ length (now (entry .args .request))
   inside = omega (arith, next (c .loop .inv) .here, length-wordsOf (now (entry .args .request)))
@@ -38,11 +39,14 @@ module _ (c : tie.After-look Inv-loop μ-loop) where
       ≡ Item (c .look .given .0 .0)
   seen = sym (c .before .before .look-beside .ensures) ∙ c .look .given .1
 
+of-requires : tie.Need-of-requires Inv-loop μ-loop
+of-requires c κs = search needs
+
 refused-requires : tie.Need-refused-requires Inv-loop μ-loop
 refused-requires c κs = search needs
 
 loop-holds : tie.Need-loop-holds Inv-loop μ-loop
-loop-holds c = rw (c .refused .ensures) (sides-starts _ _ _ _ (c .before .before .before .pre .0) (c .before .before .before .pre .1))
+loop-holds c = rw (c .refused .ensures, c .before .of .ensures) (sides-starts _ _ _ _ (c .before .before .before .before .pre .0) (c .before .before .before .before .pre .1))
 
 look-beside-requires : tie.Need-look-beside-requires Inv-loop μ-loop
 look-beside-requires c κs = (inside c, let g = c .loop .inv in omega (arith, g .within, g .most))
@@ -109,6 +113,7 @@ look-through-spec =
     (tie.spec
     Inv-loop
     μ-loop
+    of-requires
     refused-requires
     loop-holds
     look-beside-requires

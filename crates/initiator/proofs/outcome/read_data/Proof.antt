@@ -9,7 +9,7 @@ use Rattle.word.specs.Words.{Bytes}
 use Rattle.word.proofs.Runs.{below-all}
 use Rattle.header.specs.Header.{kindOf}
 use Rattle.message.specs.Walk.{read}
-use Rattle.initiator.proofs.Laws.Parts.{part-holds}
+use Rattle.initiator.proofs.Inner.Parts.{part-holds}
 use borrow.Author.Needs.{needs}
 use Rattle.initiator.proofs.outcome.read_data.Statement.{statement}
 use Rattle.initiator.proofs.outcome.read_data.Tie as tie

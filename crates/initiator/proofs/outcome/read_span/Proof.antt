@@ -7,7 +7,7 @@ use Rattle.word.proofs.Runs.{below-all}
 use Rattle.header.specs.Header.{kindOf}
 use Rattle.message.specs.Walk.{read}
 use Rattle.initiator.specs.Outcome.{outcomeOf, toldOf}
-use Rattle.initiator.proofs.Laws.Parts.{part-holds}
+use Rattle.initiator.proofs.Inner.Parts.{part-holds}
 use borrow.Author.Needs.{needs}
 use Rattle.initiator.proofs.outcome.read_span.Statement.{statement}
 use Rattle.initiator.proofs.outcome.read_span.Tie as tie

@@ -1,6 +1,6 @@
 -- `initiator::outcome::with_item` meets its contract: the answer of command k, or another. Assumes nothing.
 use borrow.Author.Tests.{eq-eqb, ne-eqb}
-use Rattle.initiator.specs.Outcome.{withItem}
+use Rattle.initiator.specs.Telling.{withItem}
 use borrow.Author.Needs.{needs}
 use Rattle.initiator.proofs.outcome.with_item.Statement.{statement}
 use Rattle.initiator.proofs.outcome.with_item.Tie as tie

@@ -1,43 +1,70 @@
 -- `initiator::sender::take` meets its contract: refused by the sender, by the answer, or accepted. Assumes nothing.
-use mathlib.Core.Path.{sym, _∙_, ap}
-use Rattle.word.proofs.Rules.{eqb-on, eqb-off}
-use Rattle.header.proofs.Laws.Refusals.{number-is}
-use Rattle.initiator.specs.declared.outcome.Outcome.{Outcome}
-use Rattle.initiator.specs.Sender.{takeOf}
-use Rattle.initiator.proofs.Laws.Sending.{send-next, take-wrong, take-right}
+use mathlib.Core.Path.{sym, ap, _∙_}
+use native.Mathlib.Omega.{arith}
+use Rattle.word.specs.Words.{Bytes}
+use Rattle.word.proofs.Runs.{below-all}
+use Rattle.initiator.specs.Asking.{refusalOf}
+use Rattle.initiator.specs.Sender.{sending}
+use Rattle.initiator.proofs.Laws.Asked.{Found, asks-found, asks-refused}
+use Rattle.initiator.proofs.Inner.Sending.{sends, take-own, take-wrong, take-right, told-refusal}
+use Rattle.initiator.proofs.Inner.Told.{ready}
 use borrow.Author.Needs.{needs}
 use Rattle.initiator.proofs.sender.take.Statement.{statement}
 use Rattle.initiator.proofs.sender.take.Tie as tie
 
-send-refusal-requires : tie.Need-send-refusal-requires
-send-refusal-requires c κs = search needs
+sending-requires : tie.Need-sending-requires
+sending-requires c κs = search needs
+
+enum-known-asking : tie.Need-enum-known-asking
+enum-known-asking c = search needs
+
+enum-told : tie.Need-enum-told
+enum-told c = search needs
+
+refusal-of-requires : tie.Need-refusal-of-requires
+refusal-of-requires c κs = search needs
 
 returns : tie.Need-returns
-unfolding takeOf
-returns c = let e = c .before .before .send-refusal .ensures in simp (eqb-off (number-is e) (c .if1 .taken), e)
+returns c =
+    let t = c .before .enum-told .given .1 in
+    rw (c .refusal-of .ensures ∙ ap refusalOf t) (take-own _ _ _ _ (asks-refused _ _ (sym (c .before .before .before .sending .ensures) ∙ t)))
 
-told-requires : tie.Need-told-requires
-told-requires c κs = search needs
+-- the message that may be sent
+module _ (c : tie.After-known-told) where
+  abbrev entry : tie.Start
+  entry = c .before .before .before .before .before .before
+
+  found : Found (sending (entry .args .sender) (entry .args .message .now)) (c .before .asking .given .0 .0)
+  found = asks-found _ _ (sym (c .before .before .before .sending .ensures) ∙ c .before .asking .given .1)
+
+told-by-requires : tie.Need-told-by-requires
+told-by-requires c κs =
+    let b : Bytes (entry c .args .message .now) = below-all 256 _ (λ i. let k = c .before .before .before .before .before .shared-slice-known .given i in omega arith) in
+    ready _ (found c .request) b (sends _ _ _ (found c .is) .is) (found c .first)
 
 returns-2 : tie.Need-returns-2
-unfolding takeOf
 returns-2 c =
     let t = c .before .before .before in
-    let e = t .before in
-    rw (eqb-on (number-is (e .before .before .send-refusal .ensures)) (e .if1 .left)) (take-wrong _ _ _ (ap (λ (x : Outcome). x .refusal) (t .told .ensures)) (c .if2 .taken))
+    take-wrong _ _ _ _ (found (t .before) .is) (told-refusal _ _ _ (t .told-by .ensures)) (c .if1 .taken)
 
 next-tag-requires : tie.Need-next-tag-requires
-next-tag-requires c κs =
-    let e = c .before .before .before .before in
-    send-next _ _ (sym (number-is (e .before .before .send-refusal .ensures)) ∙ e .if1 .left)
+next-tag-requires c κs = let t = c .before .before .before in sends _ _ _ (found (t .before) .is) .next
 
 returns-3 : tie.Need-returns-3
-unfolding takeOf
 returns-3 c =
     let t = c .before .before .before .before in
-    let e = t .before in
-    rw (c .next-tag .ensures .0, eqb-on (number-is (e .before .before .send-refusal .ensures)) (e .if1 .left)) (take-right _ _ _ (ap (λ (x : Outcome). x .refusal) (t .told .ensures)) (c .before .if2 .left))
+    rw (c .next-tag .ensures .0) (take-right _ _ _ _ (found (t .before) .is) (told-refusal _ _ _ (t .told-by .ensures)) (c .before .if1 .left))
 
 pub take-spec : {M : Type 1} → statement M
 take-spec =
-    tie.close (tie.spec send-refusal-requires returns told-requires returns-2 next-tag-requires returns-3)
+    tie.close
+    (tie.spec
+    sending-requires
+    enum-known-asking
+    enum-told
+    refusal-of-requires
+    returns
+    told-by-requires
+    returns-2
+    next-tag-requires
+    returns-3)

@@ -1,7 +1,7 @@
 -- `loader::sending::charkhavo_send` meets its contract: the refusal, and all the message's bytes or none. Assumes nothing.
 use mathlib.Core.Path.{sym, _∙_}
 use Rattle.word.proofs.Rules.{eqb-off}
-use Rattle.header.proofs.Laws.Refusals.{number-is}
+use Rattle.header.proofs.Laws.Refusal.{number-is}
 use Rattle.initiator.proofs.Laws.Checked.{sends-all, sends-none}
 use Rattle.loader.specs.Sending.{sendingOf}
 use borrow.Author.Needs.{needs}

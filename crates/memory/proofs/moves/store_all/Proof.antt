@@ -9,14 +9,14 @@ use Rattle.memory.proofs.moves.store_all.Tie as tie
 use Rattle.memory.proofs.moves.store_all.Reads as reads
 use Rattle.memory.proofs.moves.store.Reads as store-reads
 use Rattle.memory.proofs.moves.store_words.Reads as store-words-reads
-use Rattle.header.proofs.first.Reads as first-reads
+use Rattle.header.proofs.first_field.Reads as first-field-reads
 use Rattle.word.proofs.word_at.Reads as word-at-reads
 
 word-at-requires : tie.Need-word-at-requires
 word-at-requires c κs = search needs
 
-first-requires : tie.Need-first-requires
-first-requires c κs = search needs
+first-field-requires : tie.Need-first-field-requires
+first-field-requires c κs = search needs
 
 store-requires : tie.Need-store-requires
 store-requires c κs = search needs
@@ -34,7 +34,7 @@ returns c =
     let one = i .if1 .taken in
     let dg = i .before .before .before .args .datagram .now in (
       omega (arith, one),
-      write-one _ (wordsOf dg) _ _ _ _ _ (z .store .ensures) (z .before .first .ensures .0) (z .before .before .word-at .ensures) one (omega (arith, length-wordsOf dg)),
+      write-one _ (wordsOf dg) _ _ _ _ _ (z .store .ensures) (z .before .first-field .ensures .0) (z .before .before .word-at .ensures) one (omega (arith, length-wordsOf dg)),
     )
 
 store-words-requires : tie.Need-store-words-requires
@@ -54,7 +54,7 @@ store-all-spec =
     tie.close
     (tie.spec
     word-at-requires
-    first-requires
+    first-field-requires
     store-requires
     add-result
     same-length

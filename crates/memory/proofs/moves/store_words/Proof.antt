@@ -11,8 +11,8 @@ use Rattle.memory.proofs.moves.store_words.Tie as tie
 sub-between : tie.Need-sub-between
 sub-between c = search needs
 
-first-requires : tie.Need-first-requires
-first-requires c κs = search needs
+first-field-requires : tie.Need-first-field-requires
+first-field-requires c κs = search needs
 
 word-at-requires : tie.Need-word-at-requires
 word-at-requires c κs = search needs
@@ -29,8 +29,8 @@ add-get-words-2 c = search needs
 get-words-requires : tie.Need-get-words-requires
 get-words-requires c κs = search needs
 
-final-of-requires : tie.Need-final-of-requires
-final-of-requires c κs = search needs
+last-field-requires : tie.Need-last-field-requires
+last-field-requires c κs = search needs
 
 add-store : tie.Need-add-store
 add-store c = search needs
@@ -62,7 +62,7 @@ returns c =
     let a = b .before .before .before .args in
     let dg = a .datagram .now in
     write-made (a .memory .now) (wordsOf dg) (a .at) (a .from) (a .count) _ _ (f .store .ensures) (g .get-words .ensures) (s .store2 .ensures)
-    (b .first .ensures .0) (s .before .before .before .final-of .ensures) (f .before .word-at .ensures) (s .before .word-at2 .ensures)
+    (b .first-field .ensures .0) (s .before .before .before .last-field .ensures) (f .before .word-at .ensures) (s .before .word-at2 .ensures)
     (words-below dg (below-all 256 dg (λ i. omega (arith, b .before .shared-slice-known .given i)))) (omega arith) (omega (arith, length-wordsOf dg)) (omega arith)
 
 pub store-words-spec : {M : Type 1} → statement M
@@ -70,13 +70,13 @@ store-words-spec =
     tie.close
     (tie.spec
     sub-between
-    first-requires
+    first-field-requires
     word-at-requires
     store-requires
     add-get-words
     add-get-words-2
     get-words-requires
-    final-of-requires
+    last-field-requires
     add-store
     add-store-2
     add-word-at

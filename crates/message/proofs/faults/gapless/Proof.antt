@@ -4,17 +4,17 @@ use borrow.Author.Needs.{needs}
 use Rattle.message.proofs.faults.gapless.Statement.{statement}
 use Rattle.message.proofs.faults.gapless.Tie as tie
 
-first-ok-requires : tie.Need-first-ok-requires
-first-ok-requires c κs = search needs
+first-field-ok-requires : tie.Need-first-field-ok-requires
+first-field-ok-requires c κs = search needs
 
 returns : tie.Need-returns
-returns c = rw (flag-off (c .before .first-ok .ensures) (c .if1 .taken))
+returns c = rw (flag-off (c .before .first-field-ok .ensures) (c .if1 .taken))
 
-final-ok-requires : tie.Need-final-ok-requires
-final-ok-requires c κs = search needs
+last-field-ok-requires : tie.Need-last-field-ok-requires
+last-field-ok-requires c κs = search needs
 
 returns-2 : tie.Need-returns-2
-returns-2 c = rw (flag-on (c .before .before .first-ok .ensures) (c .before .if1 .left)) (c .final-ok .ensures)
+returns-2 c = rw (flag-on (c .before .before .first-field-ok .ensures) (c .before .if1 .left)) (c .last-field-ok .ensures)
 
 pub gapless-spec : {M : Type 1} → statement M
-gapless-spec = tie.close (tie.spec first-ok-requires returns final-ok-requires returns-2)
+gapless-spec = tie.close (tie.spec first-field-ok-requires returns last-field-ok-requires returns-2)

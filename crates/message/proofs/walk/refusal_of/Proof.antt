@@ -6,14 +6,17 @@ use Rattle.message.proofs.walk.refusal_of.Tie as tie
 enum-told : tie.Need-enum-told
 enum-told c = search needs
 
+of-requires : tie.Need-of-requires
+of-requires c κs = search needs
+
 enum-known-s : tie.Need-enum-known-s
 enum-known-s c = search needs
 
 returns : tie.Need-returns
-returns c = rw (c .enum-told .given .1)
+returns c = rw (c .of .ensures, c .before .enum-told .given .1)
 
 returns-2 : tie.Need-returns-2
 returns-2 c = search needs
 
 pub refusal-of-spec : {M : Type 1} → statement M
-refusal-of-spec = tie.close (tie.spec enum-told enum-known-s returns returns-2)
+refusal-of-spec = tie.close (tie.spec enum-told of-requires enum-known-s returns returns-2)

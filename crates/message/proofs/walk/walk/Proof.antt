@@ -2,7 +2,7 @@
 use mathlib.Core.Path.{_∙_}
 use native.Mathlib.Omega.{arith}
 use Rattle.word.proofs.Rules.{flag-on, flag-off}
-use Rattle.header.proofs.Laws.Lengths.{right}
+use Rattle.header.proofs.Laws.Limits.{right}
 use Rattle.message.proofs.Laws.Going.{walk-long, walk-whole}
 use borrow.Author.Needs.{needs}
 use Rattle.message.proofs.walk.walk.Statement.{statement}
@@ -11,14 +11,17 @@ use Rattle.message.proofs.walk.walk.Tie as tie
 length-ok-requires : tie.Need-length-ok-requires
 length-ok-requires c κs = search needs
 
+of-requires : tie.Need-of-requires
+of-requires c κs = search needs
+
 returns : tie.Need-returns
-returns c = walk-long _ (flag-off (c .before .length-ok .ensures) (c .if1 .taken))
+returns c = rw (c .of .ensures) (walk-long _ (flag-off (c .before .before .length-ok .ensures) (c .before .if1 .taken)))
 
-shared-slice-read-wide : tie.Need-shared-slice-read-wide
-shared-slice-read-wide c = let e = c .before in omega (arith, right _ (flag-on (e .before .length-ok .ensures) (e .if1 .left)) .some)
+shared-slice-read-from-byte : tie.Need-shared-slice-read-from-byte
+shared-slice-read-from-byte c = let e = c .before in omega (arith, right _ (flag-on (e .before .length-ok .ensures) (e .if1 .left)) .some)
 
-wide-requires : tie.Need-wide-requires
-wide-requires c κs = search needs
+from-byte-requires : tie.Need-from-byte-requires
+from-byte-requires c κs = search needs
 
 walk-on-requires : tie.Need-walk-on-requires
 walk-on-requires c κs = let e = c .before .before in right _ (flag-on (e .before .length-ok .ensures) (e .if1 .left)) .most
@@ -26,15 +29,16 @@ walk-on-requires c κs = let e = c .before .before in right _ (flag-on (e .befor
 returns-2 : tie.Need-returns-2
 returns-2 c =
     let e = c .before .before .before in
-    c .walk-on .ensures ∙ walk-whole _ _ (flag-on (e .before .length-ok .ensures) (e .if1 .left)) (c .before .wide .ensures .0)
+    c .walk-on .ensures ∙ walk-whole _ _ (flag-on (e .before .length-ok .ensures) (e .if1 .left)) (c .before .from-byte .ensures .0)
 
 pub walk-spec : {M : Type 1} → statement M
 walk-spec =
     tie.close
     (tie.spec
     length-ok-requires
+    of-requires
     returns
-    shared-slice-read-wide
-    wide-requires
+    shared-slice-read-from-byte
+    from-byte-requires
     walk-on-requires
     returns-2)

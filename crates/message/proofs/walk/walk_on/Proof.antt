@@ -9,7 +9,7 @@ use lib.ListN.{length}
 use Rattle.word.specs.Words.{wordsOf}
 use Rattle.word.proofs.Crossing.{length-wordsOf}
 use Rattle.message.specs.declared.walk.Step.the-variants.{Read}
-use Rattle.message.specs.declared.walk.Walked.the-variants.{Malformed}
+use Rattle.message.specs.declared.walk.Walked.the-variants.{Refused}
 use Rattle.header.specs.Header.{kindOf, replyWords}
 use Rattle.message.specs.Walk.{refusalOf, stepAt}
 use Rattle.message.proofs.Laws.Going.{reply-each, Going, got, going-starts, going-refused, going-last, going-small, going-on, going-less}
@@ -64,7 +64,7 @@ returns : tie.Need-returns Inv-loop μ-loop
 returns c =
     let t = c .before .enum-told .given .1 in
     let g = c .before .before .before .before .loop .inv in
-    ap Malformed (c .refusal-of .ensures ∙ ap refusalOf t) ∙ going-refused g _ (sym (c .before .before .before .step-at .ensures) ∙ t)
+    ap Refused (c .refusal-of .ensures ∙ ap refusalOf t) ∙ going-refused g _ (sym (c .before .before .before .step-at .ensures) ∙ t)
 
 add-answer : tie.Need-add-answer Inv-loop μ-loop
 add-answer c = let g = at-loop (c .before) .loop .inv in omega (arith, g .small, g .within, g .most)

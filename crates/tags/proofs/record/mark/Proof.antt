@@ -1,7 +1,7 @@
 -- `tags::record::mark` meets its contract. Assumes nothing.
 use native.Mathlib.Omega.{arith}
 use Rattle.tags.specs.Record.{markOf}
-use Rattle.tags.proofs.Laws.Records.{holds}
+use Rattle.tags.proofs.Laws.Record.{holds}
 use Rattle.tags.proofs.record.mark.Statement.{statement}
 use Rattle.tags.proofs.record.mark.Tie as tie
 

@@ -1,6 +1,6 @@
 -- `tags::rule::expected` meets its contract. Assumes nothing.
 use Rattle.tags.specs.Rule.{expected}
-use Rattle.tags.proofs.Laws.Records.{holds}
+use Rattle.tags.proofs.Laws.Record.{holds}
 use Rattle.tags.proofs.rule.expected.Statement.{statement}
 use Rattle.tags.proofs.rule.expected.Tie as tie
 

@@ -29,9 +29,12 @@ returns-3 : tie.Need-returns-3
 unfolding ruleOf
 returns-3 c = simp (sym (c .before .before .before .before .before .before .discovery .ensures) ∙ c .before .before .before .before .before .if1 .left, ← c .before .before .before .before .tag .ensures .0, sym (c .before .before .before .repeats .ensures) ∙ c .before .before .if2 .left, sym (c .before .expected .ensures) ∙ c .if3 .taken)
 
+of-requires : tie.Need-of-requires
+of-requires c κs = search needs
+
 returns-4 : tie.Need-returns-4
 unfolding ruleOf
-returns-4 c = simp (sym (c .before .before .before .before .before .before .discovery .ensures) ∙ c .before .before .before .before .before .if1 .left, ← c .before .before .before .before .tag .ensures .0, sym (c .before .before .before .repeats .ensures) ∙ c .before .before .if2 .left, sym (c .before .expected .ensures) ∙ c .if3 .left)
+returns-4 c = simp (c .of .ensures, sym (c .before .before .before .before .before .before .before .discovery .ensures) ∙ c .before .before .before .before .before .before .if1 .left, ← c .before .before .before .before .before .tag .ensures .0, sym (c .before .before .before .before .repeats .ensures) ∙ c .before .before .before .if2 .left, sym (c .before .before .expected .ensures) ∙ c .before .if3 .left)
 
 pub rule-spec : {M : Type 1} → statement M
 rule-spec =
@@ -44,4 +47,5 @@ rule-spec =
     returns-2
     expected-requires
     returns-3
+    of-requires
     returns-4)

@@ -1,0 +1,2 @@
+-- What only the proofs of the crate `completer` cite.
+pub mod Verdicts
