@@ -1,6 +1,6 @@
 -- The bench sheet's lines for building, as one statement over one list. `proofs/Laws/Benched.antt` computes it. Assumes
 -- nothing.
-use Prim.Native.Nat.{ℕ}
+use Prim.Native.Nat.{ℕ, _-_}
 use mathlib.Core.Path.{_≡_}
 use mathlib.Core.Bool.{false}
 use mathlib.Core.List.{List, [], _∷_}
@@ -57,6 +57,17 @@ gappedAt address number words =
 unfoldable pub benchSheet : List Line
 benchSheet = gappedAt 8 0 (gapped 8) ∷ gappedAt 12 24 [] ∷ gappedAt 4294967304 25 [] ∷ gappedAt 4294967308 24 [] ∷ []
 
+-- a caller that takes no notice of a refused begin, 21: adding the first line's command and closing are 21 too
+pub record Stops (b : Built) : Type 0 where
+  pub begin : b .refusal ≡ refusal 21
+  pub add : added benchOut (b .building) (gappedAt 8 0 [] .asked) gappedWords .refusal ≡ refusal 21
+  pub close : closed benchOut (b .building) .refusal ≡ refusal 21
+
+-- begun with an output a byte short, with kind 3, with tag 16
+unfoldable pub refusedBegins : List Built
+refusedBegins =
+    begun (limitBytes - 1) 1 0 false false ∷ begun limitBytes 3 0 false false ∷ begun limitBytes 1 16 false false ∷ []
+
 -- every line holds
 abbrev pub BenchHolds : Type 0
-BenchHolds = All Right benchSheet
+BenchHolds = All Right benchSheet × All Stops refusedBegins

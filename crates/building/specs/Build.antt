@@ -37,11 +37,15 @@ opened kind tag wide discovery =
       closed = false;
     }
 
--- 21 of begin: "short output, kind over 2, tag over 15"; a refused begin hands back a constant record
+-- what a refused begin hands back: a record of kind 3, which 21 refuses (`RefusedBeginStops` in specs/Promises.antt)
+abbrev pub noBuilding : Building
+noBuilding = opened 3 0 false false
+
+-- 21 of begin: "short output, kind over 2, tag over 15"
 unfoldable pub begun : ℕ → ℕ → ℕ → Bool → Bool → Built
 begun room kind tag wide discovery =
     cond (longOk room && startOk kind tag) (gives 0 (opened kind tag wide discovery))
-    (gives 21 (opened 0 0 false false))
+    (gives 21 noBuilding)
 
 -- 21 of add and close: "short output .. or a building record that no sequence of calls gives"
 abbrev pub usable : ℕ → Building → Bool

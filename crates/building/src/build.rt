@@ -14,7 +14,7 @@ ghost use Rattle.message.specs.Address.{addressIn, addressTop};
 ghost use Rattle.message.specs.Request.{commandWords};
 ghost use Rattle.building.specs.Record.{byte0By};
 ghost use Rattle.building.specs.Asked.{countBy, commandBy};
-ghost use Rattle.building.specs.Build.{gives, opened, begun, usable, addFault, closeFault, grown, shut, lastSet, added, addedTo, closed, closedTo};
+ghost use Rattle.building.specs.Build.{gives, opened, noBuilding, begun, usable, addFault, closeFault, grown, shut, lastSet, added, addedTo, closed, closedTo};
 use crate::asked;
 use crate::asked::Asked;
 use crate::record;
@@ -24,7 +24,6 @@ use header::refusal::Refusal;
 use message::address;
 
 // What a call gives back: its refusal, number 0 for none, and the record.
-#[repr(C)]
 pub struct Built {
     pub refusal: Refusal,
     pub building: Building,
@@ -55,15 +54,22 @@ fn open(kind: u32, tag: u32, wide: bool, discovery: bool) -> Building
     }
 }
 
-// Begins a message in the lent output, of which it changes no byte.
+// The record of a refused begin: no message has kind 3, so 21 refuses every call with it.
+fn no_building() -> Building
+    ensures { λ r. ⌜ r ≡ noBuilding ⌝ }
+{
+    open(3, 0, false, false)
+}
+
+// Begins a message in the lent output, of which it changes no byte. Refused, its record serves for nothing.
 pub fn begin(out: &[u8], kind: u32, tag: u32, wide: bool, discovery: bool) -> Built
     ensures { λ r. ⌜ r ≡ begun (length (now (out .entry))) kind tag wide discovery ⌝ }
 {
     if out.len() < limits::LIMIT_BYTES {
-        return given(Refusal::BUILDING, open(0, 0, false, false));
+        return given(Refusal::BUILDING, no_building());
     }
     if !record::start_ok(kind, tag) {
-        return given(Refusal::BUILDING, open(0, 0, false, false));
+        return given(Refusal::BUILDING, no_building());
     }
     given(0, open(kind, tag, wide, discovery))
 }

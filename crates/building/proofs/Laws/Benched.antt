@@ -8,11 +8,14 @@ use Rattle.message.specs.Request.{commandWords, All}
 use Rattle.building.specs.Record.{startOk, byte0By, freshOk, writesOk, someOk, reachable}
 use Rattle.building.specs.Asked.{commandBy, countFits, fieldsOk, narrowOk, sizeBy, replyBy, roomFits, commandFault}
 use Rattle.building.specs.Build.{opened, begun, addFault, closeFault, grown, shut, lastSet, added, addedTo, closed, closedTo}
-use Rattle.building.specs.BenchSheet.{benchOut, benchSheet, BenchHolds}
+use Rattle.building.specs.BenchSheet.{benchOut, benchSheet, refusedBegins, BenchHolds}
 
 pub benched : BenchHolds
-unfolding bytesOf put putWords kindNo byte0From headerFrom patternOk addressIn commandWords All startOk byte0By freshOk writesOk someOk reachable commandBy countFits fieldsOk narrowOk sizeBy replyBy roomFits commandFault opened begun addFault closeFault grown shut lastSet added addedTo closed closedTo benchOut benchSheet
+unfolding bytesOf put putWords kindNo byte0From headerFrom patternOk addressIn commandWords All startOk byte0By freshOk writesOk someOk reachable commandBy countFits fieldsOk narrowOk sizeBy replyBy roomFits commandFault opened begun addFault closeFault grown shut lastSet added addedTo closed closedTo benchOut benchSheet refusedBegins
 benched = (
-  record { refused = refl; words = refl },
-  (record { refused = refl; words = refl }, (record { refused = refl; words = refl }, (record { refused = refl; words = refl }, tt))),
+  (
+    record { refused = refl; words = refl },
+    (record { refused = refl; words = refl }, (record { refused = refl; words = refl }, (record { refused = refl; words = refl }, tt))),
+  ),
+  (record { begin = refl; add = refl; close = refl }, (record { begin = refl; add = refl; close = refl }, (record { begin = refl; add = refl; close = refl }, tt))),
 )

@@ -22,7 +22,7 @@ use Rattle.building.specs.declared.asked.Asked.{Asked}
 use Rattle.building.specs.declared.build.Built.{Built}
 use Rattle.building.specs.Record.{startOk, byte0By, freshOk, someOk, reachable}
 use Rattle.building.specs.Asked.{countBy, countFits, fieldsOk, enablesFit, addressFits, narrowOk, sizeBy, replyBy, roomFits, commandFault}
-use Rattle.building.specs.Build.{gives, longOk, opened, begun, addFault, closeFault, grown, shut, added, closed}
+use Rattle.building.specs.Build.{gives, longOk, opened, noBuilding, begun, addFault, closeFault, grown, shut, added, closed}
 use Rattle.building.specs.Reach.{Reached, begins, adds, closes, ReachedExactly}
 use Rattle.building.proofs.Inner.Passed.{both, unrefused, reached-some, Adds, Closes}
 use Rattle.building.proofs.Inner.Passed as passed
@@ -93,8 +93,8 @@ begun-reachable : (room kind tag : ℕ) (wide discovery : Bool) → begun room k
 unfolding begun reachable opened freshOk
 begun-reachable room kind tag wide discovery e = go (longOk room && startOk kind tag) refl e
   where
-    go : (t : Bool) → (longOk room && startOk kind tag) ≡ t → cond t (gives 0 (opened kind tag wide discovery)) (gives 21 (opened 0 0 false false)) .refusal ≡ refusal 0
-        → reachable (cond t (gives 0 (opened kind tag wide discovery)) (gives 21 (opened 0 0 false false)) .building) ≡ true
+    go : (t : Bool) → (longOk room && startOk kind tag) ≡ t → cond t (gives 0 (opened kind tag wide discovery)) (gives 21 noBuilding) .refusal ≡ refusal 0
+        → reachable (cond t (gives 0 (opened kind tag wide discovery)) (gives 21 noBuilding) .building) ≡ true
     go true z e = rw (both (longOk room) (startOk kind tag) z .1)
     go false z e = absurd (omega (arith, unrefused e))
 

@@ -27,7 +27,7 @@ use Rattle.building.specs.declared.record.Building.{Building}
 use Rattle.building.specs.declared.asked.Asked.{Asked}
 use Rattle.building.specs.Record.{startOk, byte0By}
 use Rattle.building.specs.Asked.{countBy, byte1By, addressSent, dataSent, commandBy, enablesFit, sizeBy, replyBy}
-use Rattle.building.specs.Build.{gives, longOk, opened, begun, addFault, closeFault, grown, shut, lastSet, added, addedTo, closed, closedTo}
+use Rattle.building.specs.Build.{gives, longOk, opened, noBuilding, begun, addFault, closeFault, grown, shut, lastSet, added, addedTo, closed, closedTo}
 use Rattle.building.specs.Reach.{Lent}
 use Rattle.building.specs.Sequence.{Adding, begins, adds, builtBytes, Holds, BuiltIsRead, OpenIsRefused}
 use Rattle.building.proofs.Inner.Passed as passed
@@ -111,8 +111,8 @@ stands-first : (start : List ℕ) (kind tag : ℕ) (wide discovery : Bool) → b
 unfolding begun opened
 stands-first start kind tag wide discovery e = go (longOk (length start) && startOk kind tag) refl e
   where
-    go : (t : Bool) → (longOk (length start) && startOk kind tag) ≡ t → cond t (gives 0 (opened kind tag wide discovery)) (gives 21 (opened 0 0 false false)) .refusal ≡ refusal 0
-        → Stands start [] (cond t (gives 0 (opened kind tag wide discovery)) (gives 21 (opened 0 0 false false)) .building) start
+    go : (t : Bool) → (longOk (length start) && startOk kind tag) ≡ t → cond t (gives 0 (opened kind tag wide discovery)) (gives 21 noBuilding) .refusal ≡ refusal 0
+        → Stands start [] (cond t (gives 0 (opened kind tag wide discovery)) (gives 21 noBuilding) .building) start
     go true z e =
         let b : Building = opened kind tag wide discovery in
         let t = both (longOk (length start)) (startOk kind tag) z in
