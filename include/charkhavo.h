@@ -1,13 +1,15 @@
-/* Charkhavo's two static libraries, for C11 and C++ on x86-64 (System V calling convention).
+/* Charkhavo's two static libraries, for C11 and C++; lengths are 64 bits wide on every processor.
  *
  * libcontroller.a is the brake and hoist controller's end: one call for each datagram that
  * arrives, charkhavo_serve. libloader.a is the cold-start loader's end: all other calls, which
  * build a message, send it until its answer is accepted, and tell what the answer says. Either
  * may be linked without the other; from elsewhere they need memmove alone.
  *
+ * Nothing over 16 bytes goes by value: a larger record is lent by pointer and changed in place.
+ *
  * What a caller must keep:
  * - a pointer is valid for the length that follows it, and aligned for its type; of length 0 it
- *   may be any pointer, NULL too. The tag record's pointer is always valid;
+ *   may be any pointer, NULL too. A record's pointer is always valid;
  * - a bool is 0 or 1;
  * - what a call may change (its pointer is not to const) overlaps nothing else that the same
  *   call is lent.
@@ -25,7 +27,6 @@
 #define CHARKHAVO_H
 
 #include <stdbool.h>
-#include <stddef.h>
 #include <stdint.h>
 
 #ifdef __cplusplus
@@ -141,14 +142,14 @@ typedef struct CharkhavoRefusal {
    {true, 0, 0}. */
 typedef struct CharkhavoTagRecord {
     bool fresh;
-    uint32_t tag;  /* of the last new message, 0 to 15 */
-    size_t words;  /* of the stored answer, 1 to CHARKHAVO_WORDS */
+    uint32_t tag;    /* of the last new message, 0 to 15 */
+    uint64_t words;  /* of the stored answer, 1 to CHARKHAVO_WORDS */
 } CharkhavoTagRecord;
 
 /* What serving comes to: the first `sent` bytes of the output are to be sent, 0 with a refusal. */
 typedef struct CharkhavoSent {
     CharkhavoRefusal refusal;
-    size_t sent;
+    uint64_t sent;
 } CharkhavoSent;
 
 /* Serves one datagram. A new message is carried out upon memory, and its tag and answer are
@@ -156,61 +157,58 @@ typedef struct CharkhavoSent {
    answer stay. Refusals: 1, 2, then at each header 3 (no word there), 4 to 8, 3 (its body), 9;
    then 10, 11. Output bytes past those sent, and stored words past the new answer, keep what they
    held. Lengths of memory, stored answer and payloads are in words, all others in bytes. */
-CharkhavoSent charkhavo_serve(uint32_t *memory, size_t memory_length,
-                              uint32_t *stored, size_t stored_length,
-                              uint8_t *output, size_t output_length,
+CharkhavoSent charkhavo_serve(uint32_t *memory, uint64_t memory_length,
+                              uint32_t *stored, uint64_t stored_length,
+                              uint8_t *output, uint64_t output_length,
                               CharkhavoTagRecord *tags,
-                              const uint8_t *datagram, size_t datagram_length);
+                              const uint8_t *datagram, uint64_t datagram_length);
 
 /* The loader: libloader.a. */
 
 /* The refusal of a request by any controller, 2 to 10 in the order that serving has; 0 if it is
    well-formed. */
-CharkhavoRefusal charkhavo_refusal(const uint8_t *request, size_t request_length);
+CharkhavoRefusal charkhavo_refusal(const uint8_t *request, uint64_t request_length);
 
 /* A message that is being built, in an output that the caller lends to each call. Closed, it is
    the first 4 * words bytes of that output. */
 typedef struct CharkhavoBuilding {
-    uint32_t kind;   /* of every command: NOP, write or read */
-    uint32_t tag;    /* 0 to 15 */
-    bool wide;       /* addresses of 64 bits; else of 32 */
+    uint32_t kind;    /* of every command: NOP, write or read */
+    uint32_t tag;     /* 0 to 15 */
+    bool wide;        /* addresses of 64 bits; else of 32 */
     bool discovery;
-    size_t words;    /* so far */
-    size_t last;     /* the place of the last header, in words; 0 if none */
-    size_t answer;   /* words of the all-OK answer so far */
+    uint64_t words;   /* so far */
+    uint64_t last;    /* the place of the last header, in words; 0 if none */
+    uint64_t answer;  /* words of the all-OK answer so far */
     bool closed;
 } CharkhavoBuilding;
 
-/* A command to be added. What its kind has no use for is not looked at. With two words at an address
-   that is no multiple of 8, and with three words or more, a write's enables have no gap inside: first
-   is F, E, C or 8 and last F, 7, 3 or 1. */
-typedef struct CharkhavoAsked {
-    uint64_t address;  /* writes and reads */
-    uint32_t first;    /* writes: the byte enables of the first word; bit i covers byte i */
-    uint32_t last;     /* writes: those of the last word; 0 with one word and only then */
-    size_t count;      /* reads: how many words */
-} CharkhavoAsked;
+/* The record to start with, before the first begin: adding and closing with it are 21. */
+#define CHARKHAVO_NO_BUILDING {CHARKHAVO_RESPONSE, 0, false, false, 0, 0, 0, false}
 
-/* What a building call comes to: its refusal, and the record to go on with. */
-typedef struct CharkhavoBuilt {
-    CharkhavoRefusal refusal;
-    CharkhavoBuilding building;
-} CharkhavoBuilt;
+/* The three building calls change the record that they are lent; a refused one leaves the record
+   and the output as they were. The record's pointer is always valid, and the record overlaps
+   neither output nor payload. */
 
-/* Begins a message. The output is only measured. Refusal: 21, with a record of kind 0, tag 0. */
-CharkhavoBuilt charkhavo_begin(const uint8_t *output, size_t output_length,
-                               uint32_t kind, uint32_t tag, bool wide, bool discovery);
+/* Begins a message, whatever the record holds. The output is only measured. Refusal: 21. */
+CharkhavoRefusal charkhavo_begin(const uint8_t *output, uint64_t output_length,
+                                 CharkhavoBuilding *building,
+                                 uint32_t kind, uint32_t tag, bool wide, bool discovery);
 
-/* Adds a command behind those there are. The payload is the data of a write or NOP, and its length
-   their count; a read's is not looked at. Refusals: 21 to 26, lowest first (NOPs skip 24 and 25,
-   reads skip 24), with the record as it was. Only the command's bytes of the output change. */
-CharkhavoBuilt charkhavo_add(uint8_t *output, size_t output_length,
-                             CharkhavoBuilding building, CharkhavoAsked asked,
-                             const uint32_t *payload, size_t payload_length);
+/* Adds a command behind those there are. What its kind has no use for is not looked at: the
+   address is of writes and reads, first and last of writes, the count of reads, the payload of
+   writes and NOPs, whose count is its length. First and last are the byte enables of the first and
+   the last word; bit i covers byte i, and last is 0 with one word and only then. With two words at
+   an address that is no multiple of 8, and with three words or more, they have no gap inside: first
+   is F, E, C or 8 and last F, 7, 3 or 1. Refusals: 21 to 26, lowest first (NOPs skip 24 and 25,
+   reads skip 24). Only the command's bytes of the output change. */
+CharkhavoRefusal charkhavo_add(uint8_t *output, uint64_t output_length,
+                               CharkhavoBuilding *building,
+                               uint64_t address, uint32_t first, uint32_t last, uint64_t count,
+                               const uint32_t *payload, uint64_t payload_length);
 
-/* Closes the message. Refusals: 21, 22, with the record as it was. Only the LAST bit of the last
-   header changes. */
-CharkhavoBuilt charkhavo_close(uint8_t *output, size_t output_length, CharkhavoBuilding building);
+/* Closes the message. Refusals: 21, 22. Only the LAST bit of the last header changes. */
+CharkhavoRefusal charkhavo_close(uint8_t *output, uint64_t output_length,
+                                 CharkhavoBuilding *building);
 
 /* The fixed discovery, which asks a controller for its stored tag. */
 typedef struct CharkhavoDiscovery {
@@ -238,51 +236,51 @@ CharkhavoSender charkhavo_fresh(void);
 /* The sender that an answer to the fixed discovery makes: its next tag is the stored one plus 1,
    modulo 16, or 0 if none is stored. Refusals: 32, 33, then 34 and 35 at each header, 38, with a
    sender of next tag 16, which every later call refuses by 37. */
-CharkhavoMoved charkhavo_discovered(const uint8_t *answer, size_t answer_length);
+CharkhavoMoved charkhavo_discovered(const uint8_t *answer, uint64_t answer_length);
 
 /* Offers a message, which then waits. Refusals: 37, 36, 31, with the sender as it was. */
 CharkhavoMoved charkhavo_offer(CharkhavoSender sender,
-                               const uint8_t *message, size_t message_length);
+                               const uint8_t *message, uint64_t message_length);
 
 /* What sending comes to: how many bytes go out, all of them the message's own; 0 with a refusal. */
 typedef struct CharkhavoSending {
     CharkhavoRefusal refusal;
-    size_t length;
+    uint64_t length;
 } CharkhavoSending;
 
 /* Whether the waiting message may go out; any number of times. Refusals: 37, 30, 31. */
 CharkhavoSending charkhavo_send(CharkhavoSender sender,
-                                const uint8_t *message, size_t message_length);
+                                const uint8_t *message, uint64_t message_length);
 
 /* Takes an answer to the waiting message. Accepted, it ends the message, also when a command
    failed, and the next tag is one more, modulo 16. Refusals: 37, 30, 31, 32, 33, then 34 and 35 at
    each header, with the sender as it was. */
 CharkhavoMoved charkhavo_take(CharkhavoSender sender,
-                              const uint8_t *message, size_t message_length,
-                              const uint8_t *answer, size_t answer_length);
+                              const uint8_t *message, uint64_t message_length,
+                              const uint8_t *answer, uint64_t answer_length);
 
 /* What an answer tells of its request. No sender is looked at, so these serve after the answer was
    taken too. Where 31 (its tag clause aside) to 35 would refuse, no command counts as answered.
    Commands are counted from 0, and k may be any number. */
 
 /* How many commands were answered. */
-size_t charkhavo_count(const uint8_t *request, size_t request_length,
-                       const uint8_t *answer, size_t answer_length);
+uint64_t charkhavo_count(const uint8_t *request, uint64_t request_length,
+                         const uint8_t *answer, uint64_t answer_length);
 
 /* How command k ended: 0 OK, 1 Timeout, 2 Error; 3 if it was not answered. */
-uint32_t charkhavo_status(const uint8_t *request, size_t request_length,
-                          const uint8_t *answer, size_t answer_length, size_t k);
+uint32_t charkhavo_status(const uint8_t *request, uint64_t request_length,
+                          const uint8_t *answer, uint64_t answer_length, uint64_t k);
 
 /* A part of the answer's bytes. */
 typedef struct CharkhavoPart {
-    size_t start;
-    size_t length;
+    uint64_t start;
+    uint64_t length;
 } CharkhavoPart;
 
 /* Where in the answer the data of read k stand. Of length 0, at 0, if command k was not answered or
    is not an OK read. */
-CharkhavoPart charkhavo_read_data(const uint8_t *request, size_t request_length,
-                                  const uint8_t *answer, size_t answer_length, size_t k);
+CharkhavoPart charkhavo_read_data(const uint8_t *request, uint64_t request_length,
+                                  const uint8_t *answer, uint64_t answer_length, uint64_t k);
 
 #ifdef __cplusplus
 }

@@ -7,6 +7,7 @@
  * Prints the words sent and answered; exits with 1 if anything differs. */
 #include "charkhavo.h"
 
+#include <stddef.h>
 #include <stdio.h>
 #include <stdlib.h>
 #include <string.h>
@@ -32,12 +33,6 @@ PLACE(CharkhavoBuilding, words, 16);
 PLACE(CharkhavoBuilding, last, 24);
 PLACE(CharkhavoBuilding, answer, 32);
 PLACE(CharkhavoBuilding, closed, 40);
-LAYOUT(CharkhavoAsked, 24);
-PLACE(CharkhavoAsked, first, 8);
-PLACE(CharkhavoAsked, last, 12);
-PLACE(CharkhavoAsked, count, 16);
-LAYOUT(CharkhavoBuilt, 56);
-PLACE(CharkhavoBuilt, building, 8);
 LAYOUT(CharkhavoDiscovery, 12);
 LAYOUT(CharkhavoSender, 8);
 PLACE(CharkhavoSender, waits, 4);
@@ -108,7 +103,9 @@ static size_t serve(struct Controller *end, const uint8_t *datagram, size_t leng
 struct Example {
     const char *name;
     uint32_t kind;
-    CharkhavoAsked asked;
+    uint64_t address;
+    uint32_t first;
+    uint64_t count;
     uint32_t data[1];
     size_t data_words;
     uint32_t request[3];
@@ -120,25 +117,25 @@ struct Example {
 /* The specification's words. Its completer advertises 8 bytes; ours 8,972 (0000230C), for document
    01 and request [6] decide there. */
 static const struct Example examples[3] = {
-    {"NOP", CHARKHAVO_NOP, {0, 0, 0, 0}, {4}, 1,
+    {"NOP", CHARKHAVO_NOP, 0, 0, 0, {4}, 1,
      {0x80010080, 0x00000004, 0}, 2, {0x800100B0, 0x0000230C}, 2},
-    {"read", CHARKHAVO_READ, {0x10, 0, 0, 1}, {0}, 0,
+    {"read", CHARKHAVO_READ, 0x10, 0, 1, {0}, 0,
      {0x800100A0, 0x00000010, 0}, 2, {0x800100B0, 0xF00DFACE}, 2},
-    {"write", CHARKHAVO_WRITE, {0x4, 0xF, 0, 0}, {0xFEEDC0DE}, 1,
+    {"write", CHARKHAVO_WRITE, 0x4, 0xF, 0, {0xFEEDC0DE}, 1,
      {0x80010F90, 0x00000004, 0xFEEDC0DE}, 3, {0x800000B0, 0}, 1},
 };
 
 /* Builds an example's message; gives its length in bytes. */
 static size_t build(uint8_t *output, const struct Example *example, uint32_t tag, bool discovery) {
-    CharkhavoBuilt built =
-        charkhavo_begin(output, CHARKHAVO_BYTES, example->kind, tag, false, discovery);
-    must(built.refusal, "beginning");
-    built = charkhavo_add(output, CHARKHAVO_BYTES, built.building, example->asked, example->data,
-                          example->data_words);
-    must(built.refusal, "adding");
-    built = charkhavo_close(output, CHARKHAVO_BYTES, built.building);
-    must(built.refusal, "closing");
-    return 4 * built.building.words;
+    const uint64_t bytes = CHARKHAVO_BYTES;
+    CharkhavoBuilding building = CHARKHAVO_NO_BUILDING;
+    must(charkhavo_begin(output, bytes, &building, example->kind, tag, false, discovery),
+         "beginning");
+    must(charkhavo_add(output, bytes, &building, example->address, example->first, 0,
+                       example->count, example->data, example->data_words),
+         "adding");
+    must(charkhavo_close(output, bytes, &building), "closing");
+    return 4 * building.words;
 }
 
 /* As the specification has them: under the discovery bit, tag 0. */
@@ -269,26 +266,57 @@ static void one_short(struct Controller *end) {
     sent = charkhavo_serve(end->memory, 8, end->stored, words, end->output, bytes - 1, &end->tags,
                            nop, 4);
     expect_number(sent.refusal, CHARKHAVO_REFUSED_LENT, "an output one byte short");
-    CharkhavoBuilt built = charkhavo_begin(end->output, bytes - 1, CHARKHAVO_NOP, 0, false, false);
-    expect_number(built.refusal, CHARKHAVO_REFUSED_BUILDING, "beginning one byte short");
+    CharkhavoBuilding building = CHARKHAVO_NO_BUILDING;
+    expect_number(charkhavo_begin(end->output, bytes - 1, &building, CHARKHAVO_NOP, 0, false, false),
+                  CHARKHAVO_REFUSED_BUILDING, "beginning one byte short");
+}
+
+/* Whether two records are the same, field by field. */
+static bool same_building(CharkhavoBuilding a, CharkhavoBuilding b) {
+    return a.kind == b.kind && a.tag == b.tag && a.wide == b.wide && a.discovery == b.discovery &&
+           a.words == b.words && a.last == b.last && a.answer == b.answer && a.closed == b.closed;
+}
+
+/* A refused call leaves the record as it was; the one to start with serves only to begin. */
+static void refused_building(void) {
+    static uint8_t output[CHARKHAVO_BYTES];
+    const uint64_t bytes = sizeof output;
+    const uint32_t number = CHARKHAVO_REFUSED_BUILDING;
+    const CharkhavoBuilding none = CHARKHAVO_NO_BUILDING;
+    CharkhavoBuilding building = none;
+    expect_number(charkhavo_begin(output, bytes, &building, CHARKHAVO_NOP, 16, true, true), number,
+                  "beginning with tag 16");
+    expect_number(charkhavo_add(output, bytes, &building, 0, 0, 0, 0, NULL, 0), number,
+                  "adding with nothing begun");
+    expect_number(charkhavo_close(output, bytes, &building), number, "closing with nothing begun");
+    expect(same_building(building, none), "the record that nothing was begun in");
+    must(charkhavo_begin(output, bytes, &building, CHARKHAVO_READ, 5, true, true), "a read");
+    must(charkhavo_add(output, bytes, &building, 8, 0, 0, 2, NULL, 0), "a read of two words");
+    const CharkhavoBuilding begun = {CHARKHAVO_READ, 5, true, true, 3, 0, 3, false};
+    expect(same_building(building, begun), "the record of a read of two words");
+    expect_number(charkhavo_begin(output, bytes, &building, CHARKHAVO_RESPONSE, 0, false, false),
+                  number, "beginning a response");
+    expect_number(charkhavo_add(output, bytes, &building, 8, 0, 0, 0, NULL, 0),
+                  CHARKHAVO_REFUSED_ADDED_COUNT, "a read of no words");
+    expect_number(charkhavo_close(output, bytes - 1, &building), number, "closing a byte short");
+    expect(same_building(building, begun), "the record after three refused calls");
 }
 
 /* Building with NULL, of length 0, for outputs and payloads. */
 static void nothing_to_build(void) {
-    uint8_t output[CHARKHAVO_BYTES];
-    CharkhavoAsked read = {0, 0, 0, 1};
-    CharkhavoBuilt built = charkhavo_begin(NULL, 0, CHARKHAVO_NOP, 0, false, false);
-    expect_number(built.refusal, CHARKHAVO_REFUSED_BUILDING, "beginning in no output");
-    built = charkhavo_begin(output, sizeof output, CHARKHAVO_READ, 0, false, false);
-    built = charkhavo_add(output, sizeof output, built.building, read, NULL, 0);
-    must(built.refusal, "a read, which has no payload");
-    built = charkhavo_begin(output, sizeof output, CHARKHAVO_NOP, 0, false, false);
-    built = charkhavo_add(output, sizeof output, built.building, read, NULL, 0);
-    must(built.refusal, "a NOP of no words");
-    built = charkhavo_add(NULL, 0, built.building, read, NULL, 0);
-    expect_number(built.refusal, CHARKHAVO_REFUSED_BUILDING, "adding to no output");
-    built = charkhavo_close(NULL, 0, built.building);
-    expect_number(built.refusal, CHARKHAVO_REFUSED_BUILDING, "closing in no output");
+    static uint8_t output[CHARKHAVO_BYTES];
+    const uint64_t bytes = sizeof output;
+    const uint32_t number = CHARKHAVO_REFUSED_BUILDING;
+    CharkhavoBuilding building = CHARKHAVO_NO_BUILDING;
+    expect_number(charkhavo_begin(NULL, 0, &building, CHARKHAVO_NOP, 0, false, false), number,
+                  "beginning in no output");
+    must(charkhavo_begin(output, bytes, &building, CHARKHAVO_READ, 0, false, false), "a read");
+    must(charkhavo_add(output, bytes, &building, 0, 0, 0, 1, NULL, 0), "a read has no payload");
+    must(charkhavo_begin(output, bytes, &building, CHARKHAVO_NOP, 0, false, false), "a NOP");
+    must(charkhavo_add(output, bytes, &building, 0, 0, 0, 1, NULL, 0), "a NOP of no words");
+    expect_number(charkhavo_add(NULL, 0, &building, 0, 0, 0, 1, NULL, 0), number,
+                  "adding to no output");
+    expect_number(charkhavo_close(NULL, 0, &building), number, "closing in no output");
 }
 
 /* Sending with NULL, of length 0, for messages and answers. */
@@ -329,6 +357,7 @@ int main(void) {
     later_headers(&end);
     nothing_to_serve(&end);
     one_short(&end);
+    refused_building();
     nothing_to_build();
     nothing_to_send();
     printf(differences == 0 ? "all as specified\n" : "DIFFERENCES\n");

@@ -1,6 +1,6 @@
 //! The loader's messages, built through its library.
 
-use crate::ffi::{self, Asked, Building, Built};
+use crate::ffi::{self, Asked, Building};
 use crate::limits::BYTES;
 use crate::refusal::Refusal;
 use std::marker::PhantomData;
@@ -72,16 +72,15 @@ pub struct Builder<K> {
 impl<K: Kind> Builder<K> {
     /// Begins a message: 21 where the tag is over 15.
     pub fn begin(head: Head) -> Result<Builder<K>, Refusal> {
-        let output = [0; BYTES];
-        let begun = ffi::begin(&output, K::NUMBER, head.tag, head.wide, head.discovery);
-        begun.refusal.result()?;
-        Ok(Builder { output, building: begun.building, kind: PhantomData })
+        let Head { tag, wide, discovery } = head;
+        let (output, mut building) = ([0; BYTES], Building::NONE);
+        ffi::begin(&output, &mut building, K::NUMBER, tag, wide, discovery).result()?;
+        Ok(Builder { output, building, kind: PhantomData })
     }
 
     /// Closes the message and gives its bytes: 22 where it is closed or nothing was added.
     pub fn close(&mut self) -> Result<&[u8], Refusal> {
-        let closed = ffi::close(&mut self.output, self.building);
-        self.keep(closed)?;
+        ffi::close(&mut self.output, &mut self.building).result()?;
         Ok(&self.output[..4 * self.building.words])
     }
 
@@ -91,14 +90,7 @@ impl<K: Kind> Builder<K> {
     }
 
     fn add(&mut self, asked: Asked, data: &[u32]) -> Result<(), Refusal> {
-        let built = ffi::add(&mut self.output, self.building, asked, data);
-        self.keep(built)
-    }
-
-    /// The record after a call; a refused one hands back what it was given.
-    fn keep(&mut self, built: Built) -> Result<(), Refusal> {
-        self.building = built.building;
-        built.refusal.result()
+        ffi::add(&mut self.output, &mut self.building, asked, data).result()
     }
 }
 

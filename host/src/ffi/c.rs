@@ -1,6 +1,9 @@
 //! The declarations of `include/charkhavo.h`, in its order: the records as C lays them out, and
 //! the libraries' functions. What each means stands there.
 
+// Lengths are 64 bits wide in the libraries, on every processor; here they are `usize`.
+const _: () = assert!(usize::BITS == 64);
+
 /// A refusal as C has it; number 0 where nothing is refused.
 #[repr(C)]
 #[derive(Clone, Copy, Debug, PartialEq, Eq)]
@@ -35,22 +38,6 @@ pub struct Building {
     pub last: usize,
     pub answer: usize,
     pub closed: bool,
-}
-
-#[repr(C)]
-#[derive(Clone, Copy, Debug, PartialEq, Eq)]
-pub struct Asked {
-    pub address: u64,
-    pub first: u32,
-    pub last: u32,
-    pub count: usize,
-}
-
-#[repr(C)]
-#[derive(Clone, Copy, Debug, PartialEq, Eq)]
-pub struct Built {
-    pub refusal: Refused,
-    pub building: Building,
 }
 
 #[repr(C)]
@@ -118,24 +105,28 @@ extern "C" {
     pub(super) fn charkhavo_begin(
         output: *const u8,
         output_length: usize,
+        building: *mut Building,
         kind: u32,
         tag: u32,
         wide: bool,
         discovery: bool,
-    ) -> Built;
+    ) -> Refused;
     pub(super) fn charkhavo_add(
         output: *mut u8,
         output_length: usize,
-        building: Building,
-        asked: Asked,
+        building: *mut Building,
+        address: u64,
+        first: u32,
+        last: u32,
+        count: usize,
         payload: *const u32,
         payload_length: usize,
-    ) -> Built;
+    ) -> Refused;
     pub(super) fn charkhavo_close(
         output: *mut u8,
         output_length: usize,
-        building: Building,
-    ) -> Built;
+        building: *mut Building,
+    ) -> Refused;
     pub(super) fn charkhavo_discovery() -> Discovery;
     pub(super) fn charkhavo_fresh() -> Sender;
     pub(super) fn charkhavo_discovered(answer: *const u8, answer_length: usize) -> Moved;

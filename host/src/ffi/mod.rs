@@ -14,7 +14,7 @@
 mod c;
 
 pub use c::TagRecord;
-pub use c::{Asked, Building, Built, Discovery, Moved, Part, Refused, Sender, Sending, Sent};
+pub use c::{Building, Discovery, Moved, Part, Refused, Sender, Sending, Sent};
 
 use crate::refusal::Refusal;
 
@@ -26,6 +26,20 @@ impl Refused {
             Refused { number, at } => Err(Refusal { number, at }),
         }
     }
+}
+
+impl Building {
+    /// The record to start with, before the first begin: adding and closing with it are 21.
+    pub const NONE: Building = Building {
+        kind: 3,
+        tag: 0,
+        wide: false,
+        discovery: false,
+        words: 0,
+        last: 0,
+        answer: 0,
+        closed: false,
+    };
 }
 
 /// The controller's call: of the library and, for `timed` to compare, of an earlier one.
@@ -68,22 +82,51 @@ pub fn refusal(request: &[u8]) -> Refused {
     unsafe { c::charkhavo_refusal(request.as_ptr(), request.len()) }
 }
 
-/// Begins a message: 21.
-pub fn begin(output: &[u8], kind: u32, tag: u32, wide: bool, discovery: bool) -> Built {
-    // Sound: the output is only read, if at all.
-    unsafe { c::charkhavo_begin(output.as_ptr(), output.len(), kind, tag, wide, discovery) }
+/// The fields of a command to add, which C has as parameters.
+#[derive(Clone, Copy, Debug, PartialEq, Eq)]
+pub struct Asked {
+    pub address: u64,
+    pub first: u32,
+    pub last: u32,
+    pub count: usize,
 }
 
-/// Adds a command, with the data of a write or NOP: 21 to 26.
-pub fn add(output: &mut [u8], building: Building, asked: Asked, payload: &[u32]) -> Built {
-    let (data, count) = (payload.as_ptr(), payload.len());
-    // Sound: the output is lent exclusively, the payload only read; the records go by value.
-    unsafe { c::charkhavo_add(output.as_mut_ptr(), output.len(), building, asked, data, count) }
+/// Begins a message: 21. Refused, the record is as it was.
+pub fn begin(
+    output: &[u8],
+    building: &mut Building,
+    kind: u32,
+    tag: u32,
+    wide: bool,
+    discovery: bool,
+) -> Refused {
+    let (bytes, length) = (output.as_ptr(), output.len());
+    // Sound: the output is only read, if at all; the record is lent exclusively.
+    unsafe { c::charkhavo_begin(bytes, length, building, kind, tag, wide, discovery) }
 }
 
-/// Closes the message: 21, 22.
-pub fn close(output: &mut [u8], building: Building) -> Built {
-    // Sound: the output is lent exclusively; the record goes by value.
+/// Adds a command, with the data of a write or NOP: 21 to 26. Refused, the record is as it was.
+pub fn add(output: &mut [u8], building: &mut Building, asked: Asked, payload: &[u32]) -> Refused {
+    let Asked { address, first, last, count } = asked;
+    // Sound: output and record are lent exclusively, the payload only read.
+    unsafe {
+        c::charkhavo_add(
+            output.as_mut_ptr(),
+            output.len(),
+            building,
+            address,
+            first,
+            last,
+            count,
+            payload.as_ptr(),
+            payload.len(),
+        )
+    }
+}
+
+/// Closes the message: 21, 22. Refused, the record is as it was.
+pub fn close(output: &mut [u8], building: &mut Building) -> Refused {
+    // Sound: output and record are lent exclusively.
     unsafe { c::charkhavo_close(output.as_mut_ptr(), output.len(), building) }
 }
 

@@ -41,7 +41,7 @@ pub struct Addition<'a> {
 }
 
 impl Building {
-    /// What a refused begin leaves the caller with.
+    /// A NOP of tag 0 with nothing added.
     pub const EMPTY: Building = Building {
         kind: NOP,
         tag: 0,
@@ -53,17 +53,20 @@ impl Building {
         closed: false,
     };
 
-    /// Begins a message. The output is only measured, so that a short one is told at once.
+    /// Begins a message in this record, whatever it holds. The output is only measured, so that
+    /// a short one is told at once.
     pub fn begin(
+        &mut self,
         output: &[u8],
         kind: u32,
         tag: u32,
         wide: bool,
         discovery: bool,
-    ) -> Result<Building, Refusal> {
+    ) -> Result<(), Refusal> {
         let building = Building { kind, tag, wide, discovery, ..Building::EMPTY };
         building.check(output)?;
-        Ok(building)
+        *self = building;
+        Ok(())
     }
 
     /// Adds a command behind the last one; only its own bytes of the output change.

@@ -16,10 +16,11 @@ fn building_calls() {
     let (mut calls, mut finished) = (0, 0);
     while calls < ROUNDS {
         let mut output = output(&mut random);
-        let (refusal, begun) = same_begin(&mut random, &output);
+        let old = record(&mut random);
+        let (refusal, begun) = same_begin(&mut random, &output, old);
         seen.note(refusal.number);
         let goes_on = refusal.number == 0 && !random.one_in(3);
-        let mut building = if goes_on { begun } else { record(&mut random) };
+        let mut building = if goes_on { begun } else { old };
         let more = random.between(1, 40);
         for _ in 0..more {
             let call = next(&mut random, building.kind);
@@ -37,14 +38,17 @@ fn building_calls() {
     seen.exactly([0, 21, 22, 23, 24, 25, 26]);
 }
 
-fn same_begin(random: &mut Random, output: &[u8]) -> Given<Building> {
+/// Begins by both over one record; refusal and record must agree, and a refusal leave the record.
+fn same_begin(random: &mut Random, output: &[u8], old: Building) -> Given<Building> {
     let Call::Begin { kind, tag, wide, discovery } = begin(random) else { unreachable!() };
-    let ours = Ours::begin(output, kind, tag, wide, discovery);
-    assert_eq!(ours, Other::begin(output, kind, tag, wide, discovery));
+    let ours = Ours::begin(output, old, kind, tag, wide, discovery);
+    assert_eq!(ours, Other::begin(output, old, kind, tag, wide, discovery));
+    assert!(ours.0.number == 0 || ours.1 == old, "{old:?} {ours:?}");
     ours
 }
 
-/// Adds or closes by both, over outputs alike; refusal, record and every byte must agree.
+/// Adds or closes by both, over outputs alike; refusal, record and every byte must agree, and a
+/// refusal leave the record.
 fn same_call(output: &mut [u8], building: Building, call: &Call) -> Given<Building> {
     let mut other = output.to_vec();
     let (ours, others) = match call.addition() {
@@ -55,6 +59,7 @@ fn same_call(output: &mut [u8], building: Building, call: &Call) -> Given<Buildi
     };
     assert_eq!(ours, others, "{building:?} {call:?}");
     assert!(*output == *other, "{building:?} {call:?}");
+    assert!(ours.0.number == 0 || ours.1 == building, "{building:?} {call:?}");
     ours
 }
 

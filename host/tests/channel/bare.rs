@@ -3,7 +3,7 @@
 use super::pair::{check_added, Told, TwoEnds};
 use crate::common::{Ends, Given};
 use charkhavo_host::limits::{BYTES, WORDS};
-use charkhavo_host::plain::{Addition, Sender, TagRecord};
+use charkhavo_host::plain::{Addition, Building, Sender, TagRecord};
 use std::marker::PhantomData;
 
 pub struct Bare<E> {
@@ -62,7 +62,8 @@ impl<E: Ends> TwoEnds for Bare<E> {
 
     fn build(&self, kind: u32, wide: bool, commands: &[Addition]) -> Vec<u8> {
         let mut output = vec![0x55; BYTES];
-        let begun = result(E::begin(&output, kind, self.sender.next, wide, false));
+        let (tag, empty) = (self.sender.next, Building::EMPTY);
+        let begun = result(E::begin(&output, empty, kind, tag, wide, false));
         let mut building = begun.expect("begun");
         for command in commands {
             let (refusal, after) = E::add(&mut output, building, *command);

@@ -19,7 +19,14 @@ pub trait Ends {
 
     fn refusal(request: &[u8]) -> Refusal;
 
-    fn begin(output: &[u8], kind: u32, tag: u32, wide: bool, discovery: bool) -> Given<Building>;
+    fn begin(
+        output: &[u8],
+        building: Building,
+        kind: u32,
+        tag: u32,
+        wide: bool,
+        discovery: bool,
+    ) -> Given<Building>;
     fn add(output: &mut [u8], building: Building, addition: Addition) -> Given<Building>;
     fn close(output: &mut [u8], building: Building) -> Given<Building>;
 

@@ -27,18 +27,31 @@ impl Ends for Library {
         refusal(ffi::refusal(request))
     }
 
-    fn begin(output: &[u8], kind: u32, tag: u32, wide: bool, discovery: bool) -> Given<Building> {
-        built(ffi::begin(output, kind, tag, wide, discovery))
+    fn begin(
+        output: &[u8],
+        building: Building,
+        kind: u32,
+        tag: u32,
+        wide: bool,
+        discovery: bool,
+    ) -> Given<Building> {
+        let mut record = record(building);
+        let refused = ffi::begin(output, &mut record, kind, tag, wide, discovery);
+        built(refused, record)
     }
 
     fn add(output: &mut [u8], building: Building, addition: Addition) -> Given<Building> {
         let Addition { address, first, last, count, data } = addition;
         let asked = ffi::Asked { address, first, last, count };
-        built(ffi::add(output, record(building), asked, data))
+        let mut record = record(building);
+        let refused = ffi::add(output, &mut record, asked, data);
+        built(refused, record)
     }
 
     fn close(output: &mut [u8], building: Building) -> Given<Building> {
-        built(ffi::close(output, record(building)))
+        let mut record = record(building);
+        let refused = ffi::close(output, &mut record);
+        built(refused, record)
     }
 
     fn discovery() -> [u8; 12] {
@@ -91,10 +104,10 @@ fn record(building: Building) -> ffi::Building {
     ffi::Building { kind, tag, wide, discovery, words, last, answer, closed }
 }
 
-fn built(built: ffi::Built) -> Given<Building> {
-    let ffi::Building { kind, tag, wide, discovery, words, last, answer, closed } = built.building;
+fn built(refused: ffi::Refused, record: ffi::Building) -> Given<Building> {
+    let ffi::Building { kind, tag, wide, discovery, words, last, answer, closed } = record;
     let building = Building { kind, tag, wide, discovery, words, last, answer, closed };
-    (refusal(built.refusal), building)
+    (refusal(refused), building)
 }
 
 fn lent(sender: Sender) -> ffi::Sender {

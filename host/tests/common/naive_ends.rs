@@ -42,10 +42,17 @@ impl Ends for Naive {
         refusal(naive::read(request).err().unwrap_or_default())
     }
 
-    fn begin(output: &[u8], kind: u32, tag: u32, wide: bool, discovery: bool) -> Given<Building> {
+    fn begin(
+        output: &[u8],
+        building: Building,
+        kind: u32,
+        tag: u32,
+        wide: bool,
+        discovery: bool,
+    ) -> Given<Building> {
         let begun = Building { kind, tag, wide, discovery, ..Building::EMPTY };
         match refused_21(&SEQUENCES, output, &begun) {
-            true => (Refusal::of(21), Building::EMPTY),
+            true => (Refusal::of(21), building),
             false => (Refusal::of(0), begun),
         }
     }

@@ -23,9 +23,16 @@ impl Ends for Plain {
         refusal(&message::walk(request))
     }
 
-    fn begin(output: &[u8], kind: u32, tag: u32, wide: bool, discovery: bool) -> Given<Building> {
-        let begun = Building::begin(output, kind, tag, wide, discovery);
-        (refusal(&begun), begun.unwrap_or(Building::EMPTY))
+    fn begin(
+        output: &[u8],
+        mut building: Building,
+        kind: u32,
+        tag: u32,
+        wide: bool,
+        discovery: bool,
+    ) -> Given<Building> {
+        let begun = building.begin(output, kind, tag, wide, discovery);
+        (refusal(&begun), building)
     }
 
     fn add(output: &mut [u8], mut building: Building, addition: Addition) -> Given<Building> {

@@ -7,7 +7,6 @@ use lib.Dec.{eqb}
 use lib.ListN.{length}
 use Rattle.header.specs.Refusal.{refusal}
 use Rattle.building.specs.declared.record.Building.{Building}
-use Rattle.building.specs.declared.asked.Asked.{Asked}
 use Rattle.building.specs.declared.build.Built.{Built}
 use Rattle.building.specs.Record.{startOk, reachable}
 use Rattle.building.specs.Build.{gives, longOk, opened, noBuilding, begun, addFault, closeFault, added, addedTo, closed, closedTo}

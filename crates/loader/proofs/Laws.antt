@@ -1,0 +1,2 @@
+-- The laws of the crate `loader`: its promises.
+pub mod Build
