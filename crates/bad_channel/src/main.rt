@@ -12,83 +12,114 @@ use initiator::sender::Sender;
 use message::discovery;
 use tags::record::TagRecord;
 
-mod print;
-
 const MESSAGES: u32 = 18;
 
 const WRITE: u32 = 1;
 
 const READ: u32 = 2;
 
-// The two records, and the length of the answer to the message before.
-struct Ends {
-    sender: Sender,
-    tags: TagRecord,
-    before: usize,
+// A message or an answer: the first n of some bytes.
+struct Bytes {
+    bytes: [u8; limits::LIMIT_BYTES],
+    n: usize,
 }
 
-// Builds message i and gives its length: two of three write a word that says their number, the third reads the word
-// before.
-fn compose(out: &mut [u8], i: u32) -> usize {
-    let reads = i % 3 == 2;
-    let kind = if reads { READ } else { WRITE };
-    let address = if reads {
-        4 * ((i % 8 + 7) % 8)
-    } else {
-        4 * (i % 8)
-    };
-    let words = [3235774464 + i % 256];
-    let begun = build::begin(out, kind, i % 16, false, false);
-    let asked = Asked {
-        address: address as u64,
+struct Controller {
+    memory: [u32; 8],
+    stored: [u32; limits::LIMIT],
+    tags: TagRecord,
+}
+
+// The controller after an arrival, and its answer.
+struct Arrived {
+    controller: Controller,
+    answer: Bytes,
+}
+
+// The two ends, and the answer to the message before.
+struct Ends {
+    sender: Sender,
+    controller: Controller,
+    before: Bytes,
+}
+
+// Message i asks: two of three write a word that says their number, the third reads the word before.
+fn asked(i: u32) -> Asked {
+    let word = if i % 3 == 2 { i % 8 + 7 } else { i };
+    Asked {
+        address: (4 * (word % 8)) as u64,
         first: 15,
         last: 0,
         count: 1,
-    };
-    let added = build::add(out, begun.building, asked, &words);
-    let closed = build::close(out, added.building);
+    }
+}
+
+fn compose(i: u32) -> Bytes {
+    let mut bytes = [0u8; limits::LIMIT_BYTES];
+    let kind = if i % 3 == 2 { READ } else { WRITE };
+    let begun = build::begin(&bytes, kind, i % 16, false, false);
+    let words = [3235774464 + i % 256];
+    let added = build::add(&mut bytes, begun.building, asked(i), &words);
+    let closed = build::close(&mut bytes, added.building);
     let b = closed.building;
     if b.words > limits::LIMIT {
-        return 0;
+        return Bytes { bytes, n: 0 };
     }
-    4 * b.words
+    let n = 4 * b.words;
+    Bytes { bytes, n }
+}
+
+fn say_served(served: Served) {
+    let refusal = served.refusal;
+    show::number(b": refusal ", refusal.number as u64);
+    show::number(b", bytes ", served.sent as u64);
+    show::say(b":");
 }
 
 // A datagram comes to the controller.
-fn arrives(
-    label: &[u8],
-    memory: &mut [u32],
-    stored: &mut [u32],
-    output: &mut [u8],
-    tags: TagRecord,
-    datagram: &[u8],
-) -> Served {
-    let served = serving::serve(memory, stored, output, tags, datagram);
-    let refusal = served.refusal;
-    print::say(label);
-    print::number(b": refusal ", refusal.number as u64);
-    print::number(b", bytes ", served.sent as u64);
-    print::say(b":");
-    print::show(print::front(output, served.sent));
-    served
+fn arrives(c: Controller, datagram: &[u8]) -> Arrived {
+    let mut memory = c.memory;
+    let mut stored = c.stored;
+    let mut bytes = [0u8; limits::LIMIT_BYTES];
+    let served = serving::serve(&mut memory, &mut stored, &mut bytes, c.tags, datagram);
+    let tags = served.tags;
+    let n = served.sent;
+    say_served(served);
+    show::bytes(show::front(&bytes, n));
+    Arrived {
+        controller: Controller {
+            memory,
+            stored,
+            tags,
+        },
+        answer: Bytes { bytes, n },
+    }
+}
+
+fn say_data(message: &[u8], answer: &[u8]) {
+    show::number(b", answered ", outcome::answered(message, answer) as u64);
+    show::say(b", data");
+    show::bytes(outcome::read_data(message, answer, 0));
 }
 
 // An answer comes to the sender.
-fn back(label: &[u8], s: Sender, message: &[u8], answer: &[u8]) -> Sender {
+fn back(s: Sender, message: &[u8], answer: &[u8]) -> Sender {
     let moved = sender::take(s, message, answer);
     let refusal = moved.refusal;
     let then = moved.sender;
-    print::say(label);
-    print::number(b": refusal ", refusal.number as u64);
-    print::number(b", next ", then.next as u64);
+    show::number(b": refusal ", refusal.number as u64);
+    show::number(b", next ", then.next as u64);
     if then.waits {
-        print::say(b", waiting\n");
-    } else {
-        print::number(b", answered ", outcome::answered(message, answer) as u64);
-        print::say(b", data");
-        print::show(outcome::read_data(message, answer, 0));
+        show::say(b", waiting\n");
+        return then;
     }
+    say_data(message, answer);
     then
+}
+
+fn comes_back(s: Sender, message: &[u8], answer: Bytes) -> Sender {
+    let bytes = answer.bytes;
+    back(s, message, show::front(&bytes, answer.n))
 }
 
 // Message i is offered and sent; that send is lost.
@@ -96,191 +127,124 @@ fn offered(s: Sender, message: &[u8], i: u32) -> Sender {
     let moved = sender::offer(s, message);
     let refusal = moved.refusal;
     let then = moved.sender;
-    print::number(b"message ", i as u64);
-    print::number(b" offered: refusal ", refusal.number as u64);
-    print::say(b"\nsent and lost:");
-    print::show(sender::send(then, message));
+    show::number(b"message ", i as u64);
+    show::number(b" offered: refusal ", refusal.number as u64);
+    show::say(b"\nsent and lost:");
+    show::bytes(sender::send(then, message));
     then
 }
 
-// A discovery comes, and its answer reaches the sender.
-fn discovered(memory: &mut [u32], stored: &mut [u32], ends: Ends, message: &[u8]) -> Ends {
-    let mut output = [0u8; limits::LIMIT_BYTES];
+// A discovery comes, and its answer.
+fn discovered(c: Controller) -> Arrived {
     let asks = discovery::bytes();
-    let served = arrives(b"discovery", memory, stored, &mut output, ends.tags, &asks);
-    let tags = served.tags;
-    let s = back(
-        b"its answer",
-        ends.sender,
-        message,
-        print::front(&output, served.sent),
-    );
-    Ends {
-        sender: s,
-        tags,
-        before: ends.before,
-    }
+    show::say(b"discovery");
+    arrives(c, &asks)
 }
 
 // What was sent of an older message comes late.
-fn late(memory: &mut [u32], stored: &mut [u32], tags: TagRecord, i: u32, behind: u32) -> TagRecord {
+fn late(c: Controller, i: u32, behind: u32) -> Controller {
     if i < behind {
-        return tags;
+        return c;
     }
-    let mut old = [0u8; limits::LIMIT_BYTES];
-    let mut output = [0u8; limits::LIMIT_BYTES];
-    let n = compose(&mut old, i - behind);
-    print::number(b"from ", behind as u64);
-    let served = arrives(
-        b" before",
-        memory,
-        stored,
-        &mut output,
-        tags,
-        print::front(&old, n),
-    );
-    served.tags
+    let old = compose(i - behind);
+    let bytes = old.bytes;
+    show::number(b"from ", behind as u64);
+    show::say(b" before");
+    let arrived = arrives(c, show::front(&bytes, old.n));
+    arrived.controller
 }
 
 // The answer to the message before comes once more, where there was one.
-fn again(s: Sender, message: &[u8], old: &[u8]) -> Sender {
-    if old.len() == 0 {
+fn again(s: Sender, message: &[u8], before: Bytes) -> Sender {
+    if before.n == 0 {
         return s;
     }
-    back(b"old answer", s, message, old)
+    show::say(b"old answer");
+    comes_back(s, message, before)
 }
 
-// Message i waits: its first send is lost, a discovery comes, and the answer to the message before reaches the sender
-// once more.
-fn evening(
-    memory: &mut [u32],
-    stored: &mut [u32],
-    old: &[u8],
-    ends: Ends,
-    message: &[u8],
-    i: u32,
-) -> Ends {
+// Message i waits: its first send is lost, a discovery comes, and its answer and the answer to the message before reach
+// the sender.
+fn evening(ends: Ends, message: &[u8], i: u32) -> Ends {
     let s = offered(ends.sender, message, i);
-    let tags = ends.tags;
-    let waiting = Ends {
-        sender: s,
-        tags,
-        before: ends.before,
-    };
-    let ends = discovered(memory, stored, waiting, message);
-    let s = again(ends.sender, message, print::front(old, ends.before));
-    let tags = ends.tags;
+    let arrived = discovered(ends.controller);
+    let controller = arrived.controller;
+    show::say(b"its answer");
+    let s = comes_back(s, message, arrived.answer);
+    let before = ends.before;
+    let s = again(s, message, before);
     Ends {
         sender: s,
-        tags,
-        before: ends.before,
+        controller,
+        before,
     }
 }
 
-// What is sent comes twice.
-fn twice(
-    memory: &mut [u32],
-    stored: &mut [u32],
-    output: &mut [u8],
-    tags: TagRecord,
-    datagram: &[u8],
-) -> Served {
-    let served = arrives(b"arrives", memory, stored, output, tags, datagram);
-    arrives(b"again", memory, stored, output, served.tags, datagram)
+// What is sent comes twice, and sends of the message before and of the fourteenth before come late.
+fn arrivals(c: Controller, datagram: &[u8], i: u32) -> Arrived {
+    show::say(b"arrives");
+    let first = arrives(c, datagram);
+    show::say(b"again");
+    let second = arrives(first.controller, datagram);
+    let answer = second.answer;
+    let controller = late(late(second.controller, i, 1), i, 14);
+    Arrived { controller, answer }
 }
 
-// Sends of the message before and of the fourteenth before come late.
-fn stragglers(memory: &mut [u32], stored: &mut [u32], tags: TagRecord, i: u32) -> TagRecord {
-    let tags = late(memory, stored, tags, i, 1);
-    late(memory, stored, tags, i, 14)
-}
-
-// All that arrives while message i waits: what is sent, and the stragglers.
-fn arrivals(
-    memory: &mut [u32],
-    stored: &mut [u32],
-    output: &mut [u8],
-    tags: TagRecord,
-    datagram: &[u8],
-    i: u32,
-) -> Served {
-    let served = twice(memory, stored, output, tags, datagram);
-    let refusal = served.refusal;
-    let tags = stragglers(memory, stored, served.tags, i);
-    Served {
-        refusal,
-        sent: served.sent,
-        tags,
-    }
-}
-
-// Message i, lent `output` for its answer; `old` holds the answer to the message before.
-fn part(
-    memory: &mut [u32],
-    stored: &mut [u32],
-    old: &[u8],
-    output: &mut [u8],
-    ends: Ends,
-    i: u32,
-) -> Ends {
-    let mut lent = [0u8; limits::LIMIT_BYTES];
-    let n = compose(&mut lent, i);
-    let message = print::front(&lent, n);
-    let ends = evening(memory, stored, old, ends, message, i);
+// Message i.
+fn part(ends: Ends, i: u32) -> Ends {
+    let composed = compose(i);
+    let bytes = composed.bytes;
+    let message = show::front(&bytes, composed.n);
+    let ends = evening(ends, message, i);
     let s = ends.sender;
-    let sent = sender::send(s, message);
-    let served = arrivals(memory, stored, output, ends.tags, sent, i);
-    let tags = served.tags;
-    let s = back(b"answer", s, message, print::front(output, served.sent));
+    let arrived = arrivals(ends.controller, sender::send(s, message), i);
+    let controller = arrived.controller;
+    let before = arrived.answer;
+    show::say(b"answer");
+    let s = comes_back(s, message, before);
     Ends {
         sender: s,
-        tags,
-        before: served.sent,
+        controller,
+        before,
     }
 }
 
-// Two messages, each lent the output that the other's answer does not stand in.
-fn two(
-    memory: &mut [u32],
-    stored: &mut [u32],
-    a: &mut [u8],
-    b: &mut [u8],
-    ends: Ends,
-    i: u32,
-) -> Ends {
-    if MESSAGES <= i {
-        return ends;
+fn dusk() -> Ends {
+    Ends {
+        sender: Sender::fresh(),
+        controller: Controller {
+            memory: [0; 8],
+            stored: [0; limits::LIMIT],
+            tags: TagRecord::fresh(),
+        },
+        before: Bytes {
+            bytes: [0; limits::LIMIT_BYTES],
+            n: 0,
+        },
     }
-    let ends = part(memory, stored, a, b, ends, i);
-    part(memory, stored, b, a, ends, i + 1)
 }
 
 // The night.
-fn night(memory: &mut [u32], stored: &mut [u32], a: &mut [u8], b: &mut [u8]) -> Ends {
-    let mut ends = Ends {
-        sender: Sender::fresh(),
-        tags: TagRecord::fresh(),
-        before: 0,
-    };
+fn night() -> Ends {
+    let mut ends = dusk();
     let mut i = 0;
     while i < MESSAGES {
-        ends = two(memory, stored, a, b, ends, i);
-        i += 2;
+        ends = part(ends, i);
+        i += 1;
     }
     ends
 }
 
 fn main() {
-    let mut memory = [0u32; 8];
-    let mut stored = [0u32; limits::LIMIT];
-    let mut a = [0u8; limits::LIMIT_BYTES];
-    let mut b = [0u8; limits::LIMIT_BYTES];
-    let ends = night(&mut memory, &mut stored, &mut a, &mut b);
-    print::say(b"memory");
-    print::show_memory(&memory);
+    let ends = night();
+    let c = ends.controller;
+    let memory = c.memory;
+    show::say(b"memory");
+    show::words(&memory);
     let s = ends.sender;
-    let tags = ends.tags;
-    print::number(b"next ", s.next as u64);
-    print::number(b", stored ", tags.tag as u64);
-    print::say(b"\n");
+    let tags = c.tags;
+    show::number(b"next ", s.next as u64);
+    show::number(b", stored ", tags.tag as u64);
+    show::say(b"\n");
 }

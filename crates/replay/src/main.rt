@@ -5,7 +5,6 @@ use completer::serving;
 use header::limits;
 use header::refusal::Refusal;
 use libc::STDIN_FILENO;
-use libc::STDOUT_FILENO;
 use tags::record::TagRecord;
 
 const RECORD: usize = 4 + limits::LIMIT_BYTES;
@@ -26,23 +25,22 @@ fn length_of(recorded: &[u8]) -> u32 {
 
 // The start of a line: the record's number, and a word.
 fn say(number: u64, text: &[u8]) {
-    io::print_decimal(STDOUT_FILENO, number);
-    io::write_all(STDOUT_FILENO, text);
+    show::number(b"", number);
+    show::say(text);
 }
 
 fn say_number(number: u64, text: &[u8], n: u64) {
     say(number, text);
-    io::print_decimal(STDOUT_FILENO, n);
-    io::write_all(STDOUT_FILENO, b"\n");
+    show::number(b"", n);
+    show::say(b"\n");
 }
 
 // A line for a refusal: its number, and the index of the header word that was looked at.
 fn say_refused(number: u64, refusal: Refusal) {
     say(number, b" refused ");
-    io::print_decimal(STDOUT_FILENO, refusal.number as u64);
-    io::write_all(STDOUT_FILENO, b" at ");
-    io::print_decimal(STDOUT_FILENO, refusal.at as u64);
-    io::write_all(STDOUT_FILENO, b"\n");
+    show::number(b"", refusal.number as u64);
+    show::number(b" at ", refusal.at as u64);
+    show::say(b"\n");
 }
 
 // One record of so many bytes got: served, or named as short.
@@ -127,11 +125,11 @@ fn main() {
     let mut output = [0u8; limits::LIMIT_BYTES];
     let mut recorded = [0u8; RECORD];
     let tags = night(&mut memory, &mut stored, &mut output, &mut recorded);
-    io::write_all(STDOUT_FILENO, b"tag ");
+    show::say(b"tag ");
     if tags.fresh {
-        io::write_all(STDOUT_FILENO, b"none");
+        show::say(b"none");
     } else {
-        io::print_decimal(STDOUT_FILENO, tags.tag as u64);
+        show::number(b"", tags.tag as u64);
     }
-    io::write_all(STDOUT_FILENO, b"\n");
+    show::say(b"\n");
 }

@@ -1,12 +1,13 @@
--- `bad_channel::print::front` meets its contract: the part lies within the bytes. Assumes nothing.
+-- `show::front` meets its contract: the part lies within what is lent, and all of it is its front where it is shorter. Assumes nothing.
 use mathlib.Core.Path.{sym}
-use lib.Seq.{length-take-le}
+use native.Mathlib.Nat.{le-of-lt}
+use lib.Seq.{length-take-le, take-all}
 use borrow.Author.Needs.{needs}
-use Rattle.bad_channel.proofs.print.front.Statement.{statement}
-use Rattle.bad_channel.proofs.print.front.Tie as tie
+use Rattle.show.proofs.front.Statement.{statement}
+use Rattle.show.proofs.front.Tie as tie
 
 returns : tie.Need-returns
-returns c = search needs
+returns c = sym (take-all _ _ (le-of-lt (c .if1 .taken)))
 
 slice-aggregate-result : tie.Need-slice-aggregate-result
 slice-aggregate-result c = sym (length-take-le _ _ (c .before .if1 .left))
