@@ -76,16 +76,7 @@ fn carry_nop(
     let h = word::word_at(datagram, at);
     let count = header::count(h);
     let last = header::last(h);
-    putting::put_head(
-        stored,
-        output,
-        task.keep,
-        n,
-        task.answer,
-        Status::Ok,
-        count,
-        last,
-    );
+    putting::put_asked(stored, output, task.keep, n, task.answer, h);
     putting::put_advert(stored, output, task.keep, n + 1, task.mark, count);
     let words = n + 1 + count;
     let next = at + 1 + count;
@@ -167,16 +158,7 @@ fn carry_read(
     let base = (address / 4) as usize;
     let next = at + 1 + header::address_words(task.byte0);
     let last = header::last(h);
-    putting::put_head(
-        stored,
-        output,
-        task.keep,
-        n,
-        task.answer,
-        Status::Ok,
-        count,
-        last,
-    );
+    putting::put_asked(stored, output, task.keep, n, task.answer, h);
     let end = base + count;
     putting::put_run(stored, output, task.keep, n + 1, &memory[base..end]);
     let words = n + 1 + count;

@@ -5,7 +5,8 @@ ghost use mathlib.Core.List.{_∷_, []};
 ghost use Prim.Native.Nat.{_+_, _*_, _<_, _≤_};
 ghost use lib.ListN.{length, take};
 ghost use Rattle.word.specs.Words.{longest};
-ghost use Rattle.header.specs.Header.{headerFrom};
+ghost use Rattle.header.specs.Header.{countOf, lastOf, headerFrom};
+ghost use Rattle.answer.specs.declared.Status.the-variants.{Ok};
 ghost use Rattle.answer.specs.Answer.{codeOf};
 ghost use Rattle.carrying.specs.Answers.{advertisement};
 ghost use Rattle.carrying.specs.Putting.{keptIn, Puts};
@@ -74,6 +75,24 @@ pub(crate) fn put_head(
         (now (output .entry)) (now (stored .exit)) (now (output .exit)) ⌝ }
 {
     put_both(stored, output, keep, n, head(byte, status, count, last));
+}
+
+// The header of an OK answer that has the count and LAST of the request's header h, put at word n of the answer.
+pub(crate) fn put_asked(
+    stored: &mut [u32],
+    output: &mut [u8],
+    keep: bool,
+    n: usize,
+    byte: u32,
+    h: u32,
+)
+    requires { ⌜ (byte < 256)
+        × (n < length (now stored))
+        × (4 * n + 4 ≤ length (now output)) ⌝ }
+    ensures { λ _. ⌜ Puts keep n (headerFrom byte (codeOf Ok) (countOf h) (lastOf h) ∷ []) (now (stored .entry))
+        (now (output .entry)) (now (stored .exit)) (now (output .exit)) ⌝ }
+{
+    put_both(stored, output, keep, n, header::as_asked(byte, h));
 }
 
 // A run of words of the answer. One word, what most reads ask for, goes by itself.

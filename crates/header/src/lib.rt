@@ -225,6 +225,14 @@ pub fn size(h: u32) -> usize
     1 + body_words(h, h)
 }
 
+// A header of this byte 0, its byte 1 being 0, with the count and LAST of the header h: neither is moved.
+pub fn as_asked(byte0: u32, h: u32) -> u32
+    requires { ⌜ byte0 < 256 ⌝ }
+    ensures { λ r. ⌜ r ≡ headerFrom byte0 0 (countOf h) (lastOf h) ⌝ }
+{
+    byte0 + h / 65536 % 4096 * 65536 + h / 2147483648 * 2147483648
+}
+
 // A header as it is read in a message of this byte 0.
 pub fn head_of(byte0: u32, h: u32) -> Head
     ensures { λ r. ⌜ r ≡ headOf byte0 h ⌝ }

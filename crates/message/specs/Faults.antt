@@ -15,6 +15,13 @@ asks Write = true
 asks Reads = true
 asks Response = false
 
+-- "1 write"
+abbrev pub isWrite : Kind → Bool
+isWrite Nop = false
+isWrite Write = true
+isWrite Reads = false
+isWrite Response = false
+
 -- "Count is 1 to 4,095 for writes and reads, 0 to 2 for NOPs"
 abbrev pub countOk : Kind → ℕ → Bool
 countOk Nop count = leb count 2

@@ -1,11 +1,11 @@
 // The walk of a request: one step at a header, and the whole of any datagram.
 ghost use mathlib.Core.Path.{_≡_};
 ghost use Prim.Native.Nat.{ℕ, _≤_};
-ghost use mathlib.Core.Bool.{true};
+ghost use mathlib.Core.Bool.{true, cond};
 ghost use lib.ListN.{length};
 ghost use Rattle.word.specs.Words.{wordsOf};
 ghost use Rattle.header.specs.declared.Kind.the-variants.{Write};
-ghost use Rattle.message.specs.Faults.{faultOf};
+ghost use Rattle.message.specs.Faults.{isWrite, faultOf};
 ghost use Rattle.message.specs.Walk.{refusalOf, commandsFrom, stepAt, endOf, finish, walkOf};
 ghost use Rattle.header.specs.Limits.{limit, limitBytes};
 ghost use Rattle.header.specs.Header.{kindOf, countOf};
@@ -23,7 +23,7 @@ pub enum Step {
 
 // Whether byte 0 is a write's.
 fn writes(byte0: u32) -> bool
-    ensures { λ r. ⌜ (r ≡ true → kindOf byte0 ≡ Write) ⌝ }
+    ensures { λ r. ⌜ r ≡ isWrite (kindOf byte0) ⌝ }
 {
     let kind = header::kind_of(byte0);
     match kind {
@@ -50,10 +50,10 @@ fn short_write(byte0: u32, h: u32, left: usize) -> bool
         return false;
     }
     let body = header::address_words(byte0) + 1;
-    if left < body {
-        return false;
+    if header::last(h) {
+        return left == body;
     }
-    header::ends_ok(header::last(h), body, left)
+    body <= left
 }
 
 // The header at word `at` of a datagram. The body of a short write has a size of its own here, so that the processor
@@ -113,13 +113,22 @@ fn end(byte0: u32, answer: usize) -> Walked
     Walked::WellFormed(byte0)
 }
 
-// The commands of a datagram of right length, whose byte 0 is this. `each` is what a word asked for adds to the answer:
-// what the kind decides is decided once.
+// The data words of the OK answer to a command of this count: a write's has none.
+fn reply(writes: bool, count: usize) -> usize
+    ensures { λ r. ⌜ r ≡ cond writes 0 count ⌝ }
+{
+    if writes {
+        return 0;
+    }
+    count
+}
+
+// The commands of a datagram of right length, whose byte 0 is this.
 fn walk_on(datagram: &[u8], byte0: u32) -> Walked
     requires { ⌜ length (now datagram) ≤ limitBytes ⌝ }
     ensures { λ r. ⌜ r ≡ finish byte0 0 (commandsFrom byte0 0 0 (wordsOf (now (datagram .entry)))) ⌝ }
 {
-    let each = header::reply_words(header::kind_of(byte0), 1);
+    let writes = writes(byte0);
     let mut at: usize = 0;
     let mut answer: usize = 0;
     loop {
@@ -127,7 +136,7 @@ fn walk_on(datagram: &[u8], byte0: u32) -> Walked
         let Step::Read(head) = s else {
             return Walked::Refused(refusal_of(s));
         };
-        answer = answer + 1 + each * head.count;
+        answer = answer + 1 + reply(writes, head.count);
         if head.last {
             return end(byte0, answer);
         }

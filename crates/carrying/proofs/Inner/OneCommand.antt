@@ -39,6 +39,11 @@ counted-is Write count e = leb-true 1 count e
 counted-is Read count e = leb-true 1 count e
 counted-is Response count e = false≢true e
 
+-- a header with the count and LAST of the request's header h
+pub puts-asked : {keep : Bool} {n count : ℕ} {last : Bool} {s o s' o' : List ℕ} (byte h : ℕ) → count ≡ countOf h → last ≡ lastOf h
+    → Puts keep n (headerFrom byte 0 (countOf h) (lastOf h) ∷ []) s o s' o' → Puts keep n (headerFrom byte 0 count last ∷ []) s o s' o'
+puts-asked byte h e l p = rw (e, l) p
+
 -- where a command of this kind and count stands, its body is inside the datagram and its answer within the limit
 pub record Fitting (kind : Kind) (dg : List ℕ) (byte0 at n count : ℕ) : Type 0 where
   pub counted : Counted kind count

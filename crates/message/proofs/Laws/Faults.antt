@@ -10,12 +10,13 @@ use lib.Dec.{leb, eqb}
 use lib.ListN.{length, getD, drop}
 use lib.Seq.{getD-drop}
 use Rattle.header.specs.declared.refusal.Refusal.{Refusal}
-use Rattle.header.specs.declared.Kind.the-variants.{Write}
+use Rattle.header.specs.declared.Kind.{Kind}
+use Rattle.header.specs.declared.Kind.the-variants.{Nop, Write, Read as Reads, Response}
 use Rattle.header.specs.Header.{kindOf, wideOf, byte0Of, byte1Of, firstField, lastField, countOf, reservedOf, lastOf, bit, addressWords, bodyWords, headOf, endsOk}
 use Rattle.header.specs.Refusal.{refusedAt}
 use Rattle.header.proofs.Laws.Refusal.{passed}
 use Rattle.message.specs.declared.walk.Step.the-variants.{Read, Refused as RefusedStep}
-use Rattle.message.specs.Faults.{asks, countOk, gapsOk, firstFieldOk, lastFieldOk, gapless, patternOk, enablesOk, faultOf}
+use Rattle.message.specs.Faults.{asks, isWrite, countOk, gapsOk, firstFieldOk, lastFieldOk, gapless, patternOk, enablesOk, faultOf}
 use Rattle.message.specs.Walk.{stepOn, commandsFrom}
 use Rattle.message.specs.Request.{Reading, Refused, Means, before}
 use Rattle.message.specs.Address.{addressFrom}
@@ -64,6 +65,13 @@ faultless byte0 h left address s =
       le-leb _ _ (s .within),
       s .ends,
     )
+
+-- a write's kind
+pub write-is : (k : Kind) → isWrite k ≡ true → k ≡ Write
+write-is Nop e = absurd (false≢true e)
+write-is Write e = refl
+write-is Reads e = absurd (false≢true e)
+write-is Response e = absurd (false≢true e)
 
 -- a write of one word, the header's bits 30:12 being 16: no fault, whatever its address, if its body is there and nothing follows it
 -- where it is LAST

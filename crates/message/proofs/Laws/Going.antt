@@ -2,7 +2,7 @@
 use Prim.Native.Nat.{ℕ, _+_, _-_, _*_, _<_, _≤_}
 use mathlib.Core.Path.{_≡_, refl, sym, ap, _∙_}
 use mathlib.Core.List.{List, _∷_}
-use mathlib.Core.Bool.{Bool, true, false, cond}
+use mathlib.Core.Bool.{Bool, true, false, cond, false≢true}
 use native.Mathlib.Omega.{arith}
 use native.Mathlib.Numerals.{add-one}
 use borrow.Author.Tests.{eqb-true, ltb-true, ltb-false}
@@ -22,7 +22,7 @@ use Rattle.header.proofs.Laws.Limits.{Right, right}
 use Rattle.message.specs.declared.walk.Step.{Step}
 use Rattle.message.specs.declared.walk.Step.the-variants.{Read, Refused as RefusedStep}
 use Rattle.message.specs.declared.walk.Walked.the-variants.{WellFormed, Refused as RefusedWalk}
-use Rattle.message.specs.Faults.{faultOf}
+use Rattle.message.specs.Faults.{asks, isWrite, faultOf}
 use Rattle.message.specs.Walk.{stepOn, commandOf, turn, commandsFrom, stepAt, ended, endOf, finish, walked, read, walkOf}
 use Rattle.message.specs.Request.{Command, Request, Reading, Refused, Means, before, replies}
 use Rattle.message.specs.Address.{addressFrom}
@@ -59,6 +59,7 @@ pub record Got (byte0 : ℕ) (ws : List ℕ) (at : ℕ) (d : Head) : Type 0 wher
   pub here : at < length ws
   pub within : at + 1 + d .body ≤ length ws
   pub counted : d .count ≡ countOf (getD ws at 0)
+  pub asking : asks (kindOf byte0) ≡ true
 
 pub got : (byte0 : ℕ) (ws : List ℕ) (at : ℕ) (d : Head) → stepAt byte0 ws at ≡ Read d → Got byte0 ws at d
 unfolding stepAt stepOn headOf
@@ -77,7 +78,7 @@ got byte0 ws at d e = go (ltb at (length ws)) refl (eqb fault 0) refl e
         let s = sound byte0 (getD ws at 0) (length ws - at - 1) _ (eqb-true _ _ y) in
         let is : headOf byte0 (getD ws at 0) ≡ d = cc in
         let b : d .body ≡ bodyWords byte0 (countOf (getD ws at 0)) = ap (λ (x : Head). x .body) (sym is) in
-        record { here = l; within = omega (arith, s .within); counted = ap (λ (x : Head). x .count) (sym is) }
+        record { here = l; within = omega (arith, s .within); counted = ap (λ (x : Head). x .count) (sym is); asking = s .asking }
 
 finish-before : (byte0 answer : ℕ) (c : Command) (p : Reading (List Command))
     → finish byte0 answer (before c p) ≡ finish byte0 (answer + 1 + replyWords (kindOf byte0) (c .count)) p
@@ -87,12 +88,12 @@ finish-before byte0 answer c (Means cs) =
     let e : answer + (1 + replyWords (kindOf byte0) (c .count) + replies byte0 cs) ≡ answer + 1 + replyWords (kindOf byte0) (c .count) + replies byte0 cs = omega arith in
     rw e
 
--- what a word asked for adds to the answer, once for each word
-pub reply-each : (kind : Kind) (count : ℕ) → replyWords kind 1 * count ≡ replyWords kind count
-reply-each Nop count = omega arith
-reply-each Write count = omega arith
-reply-each Reads count = omega arith
-reply-each Response count = omega arith
+-- what a request adds to the answer beside its header
+pub reply-by : (kind : Kind) (count : ℕ) → asks kind ≡ true → cond (isWrite kind) 0 count ≡ replyWords kind count
+reply-by Nop count e = refl
+reply-by Write count e = refl
+reply-by Reads count e = refl
+reply-by Response count e = absurd (false≢true e)
 
 -- the walk stands before word `at`, with so many words answered
 pub record Going (byte0 : ℕ) (ws : List ℕ) (at answer : ℕ) : Type 0 where

@@ -7,7 +7,7 @@ use lib.ListN.{getD}
 use Rattle.word.specs.Words.{wordsOf}
 use Rattle.header.specs.declared.Kind.the-variants.{Nop}
 use Rattle.header.specs.Header.{countOf, lastOf}
-use Rattle.carrying.proofs.Inner.OneCommand.{Fitting, fitting, did-nop}
+use Rattle.carrying.proofs.Inner.OneCommand.{puts-asked, Fitting, fitting, did-nop}
 use borrow.Author.Needs.{needs}
 use Rattle.carrying.proofs.carry.carry_nop.Statement.{statement}
 use Rattle.carrying.proofs.carry.carry_nop.Tie as tie
@@ -35,8 +35,8 @@ count-requires c κs = search needs
 last-requires : tie.Need-last-requires
 last-requires c κs = search needs
 
-put-head-requires : tie.Need-put-head-requires
-put-head-requires c κs = search needs
+put-asked-requires : tie.Need-put-asked-requires
+put-asked-requires c κs = search needs
 
 add-put-advert : tie.Need-add-put-advert
 add-put-advert c = search needs
@@ -69,7 +69,7 @@ returns c =
     let l = p .before .before .before in
     let k = l .before in
     λ m. did-nop (dg k) m (s k .args .stored .now) (s k .args .output .now) (s k .pre .0) (s k .pre .2) (s k .pre .1) (count-is k)
-    (l .last .ensures ∙ ap lastOf (k .before .word-at .ensures)) (p .put-head .ensures) (q .put-advert .ensures)
+    (l .last .ensures ∙ ap lastOf (k .before .word-at .ensures)) (puts-asked (s k .args .task .answer) (k .before .word-at .result) (k .count .ensures .0) (l .last .ensures) (p .put-asked .ensures)) (q .put-advert .ensures)
 
 pub carry-nop-spec : {M : Type 1} → statement M
 carry-nop-spec =
@@ -78,7 +78,7 @@ carry-nop-spec =
     word-at-requires
     count-requires
     last-requires
-    put-head-requires
+    put-asked-requires
     add-put-advert
     put-advert-requires
     add-words

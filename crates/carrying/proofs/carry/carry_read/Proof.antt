@@ -8,7 +8,7 @@ use Rattle.word.specs.Words.{wordsOf}
 use Rattle.header.specs.declared.Kind.the-variants.{Read}
 use Rattle.header.specs.Header.{countOf, lastOf}
 use Rattle.memory.proofs.Laws.Moving.{within, read-part}
-use Rattle.carrying.proofs.Inner.OneCommand.{Fitting, fitting, failed-there, did-read}
+use Rattle.carrying.proofs.Inner.OneCommand.{puts-asked, Fitting, fitting, failed-there, did-read}
 use borrow.Author.Needs.{needs}
 use Rattle.carrying.proofs.carry.carry_read.Statement.{statement}
 use Rattle.carrying.proofs.carry.carry_read.Tie as tie
@@ -77,8 +77,8 @@ add-next-2 c = let g = known (c .before .before .before .before) in omega arith
 last-requires : tie.Need-last-requires
 last-requires c κs = search needs
 
-put-head-requires : tie.Need-put-head-requires
-put-head-requires c κs = search needs
+put-asked-requires : tie.Need-put-asked-requires
+put-asked-requires c κs = search needs
 
 add-end : tie.Need-add-end
 add-end c = search needs
@@ -130,7 +130,7 @@ returns-2 c =
     let k = f .before .before in
     did-read (dg k) (s k .args .memory .now) (s k .args .stored .now) (s k .args .output .now) (s k .pre .0) (s k .pre .2) (s k .pre .1) (count-is k)
     (f .before .address-at .ensures) (f .outside .ensures) (i .if1 .left) (l .last .ensures ∙ ap lastOf (k .before .word-at .ensures)) (ap (λ (x : ℕ). s k .args .at + 1 + x) (l .before .address-words .ensures .0))
-    refl (h .before .before .before .before .put-head .ensures) (read-part (s k .args .memory .now) (f .before .address-at .result / 4) (k .count .result)) (c .before .before .before .before .put-run .ensures)
+    refl (puts-asked (s k .args .task .answer) (k .before .word-at .result) (k .count .ensures .0) (l .last .ensures) (h .before .before .before .before .put-asked .ensures)) (read-part (s k .args .memory .now) (f .before .address-at .result / 4) (k .count .result)) (c .before .before .before .before .put-run .ensures)
 
 pub carry-read-spec : {M : Type 1} → statement M
 carry-read-spec =
@@ -148,7 +148,7 @@ carry-read-spec =
     address-words-requires
     add-next-2
     last-requires
-    put-head-requires
+    put-asked-requires
     add-end
     add-put-run
     mul-put-run

@@ -1,9 +1,13 @@
 -- `message::walk::short_write` meets its contract: each test is a premise of `short-faultless`. Assumes nothing.
-use mathlib.Core.Path.{refl, sym, _∙_}
+use mathlib.Core.Path.{sym, _∙_}
+use Prim.Native.Nat.{_+_}
 use mathlib.Core.Bool.{false≢true}
 use Rattle.word.proofs.Rules.{flag-on}
-use Rattle.message.proofs.Laws.Faults.{short-faultless}
+use Rattle.header.specs.Header.{kindOf}
+use Rattle.message.proofs.Laws.Faults.{write-is, short-faultless}
+use native.Mathlib.Omega.{arith}
 use borrow.Author.Needs.{needs}
+use borrow.Author.Tests.{eqb-true, leb-true}
 use Rattle.message.proofs.walk.short_write.Statement.{statement}
 use Rattle.message.proofs.walk.short_write.Tie as tie
 
@@ -28,25 +32,31 @@ address-words-requires c κs = search needs
 add-body : tie.Need-add-body
 add-body c = search needs
 
-returns-4 : tie.Need-returns-4
-returns-4 c e = absurd (false≢true e)
-
 last-requires : tie.Need-last-requires
 last-requires c κs = search needs
 
-ends-ok-requires : tie.Need-ends-ok-requires
-ends-ok-requires c κs = search needs
-
-returns-5 : tie.Need-returns-5
-returns-5 c e =
-    let s4 = c .before .before in
-    let s3 = s4 .before .before in
+returns-4 : tie.Need-returns-4
+returns-4 c e =
+    let s3 = c .before .before .before in
     let s2 = s3 .before in
     let s1 = s2 .before .before in
     let a = s1 .before .before .args in
-    let kind = s1 .before .writes .ensures (flag-on refl (s1 .if1 .left)) in
-    let address = s4 .before .address-words .ensures .0 in
-    let none = short-faultless (a .byte0) (a .h) (a .left) kind (sym (s2 .before .byte0 .ensures .0) ∙ s2 .if2 .left) (s3 .if3 .left) (rw (← address) (s4 .if4 .left)) (rw (← address, ← c .before .last .ensures) (sym (c .ends-ok .ensures) ∙ e)) in
+    let kind = write-is (kindOf (a .byte0)) (flag-on (s1 .before .writes .ensures) (s1 .if1 .left)) in
+    let words = c .before .before .address-words .ensures .0 in
+    let last = sym (c .before .last .ensures) ∙ c .if4 .taken in
+    let none = short-faultless (a .byte0) (a .h) (a .left) kind (sym (s2 .before .byte0 .ensures .0) ∙ s2 .if2 .left) (s3 .if3 .left) (rw (← words) (let same = eqb-true (a .left) (c .before .before .address-words .result + 1) e in omega (arith, same))) (rw (last, ← words, e)) in
+    (kind, none .0, none .1)
+
+returns-5 : tie.Need-returns-5
+returns-5 c e =
+    let s3 = c .before .before .before in
+    let s2 = s3 .before in
+    let s1 = s2 .before .before in
+    let a = s1 .before .before .args in
+    let kind = write-is (kindOf (a .byte0)) (flag-on (s1 .before .writes .ensures) (s1 .if1 .left)) in
+    let words = c .before .before .address-words .ensures .0 in
+    let last = sym (c .before .last .ensures) ∙ c .if4 .left in
+    let none = short-faultless (a .byte0) (a .h) (a .left) kind (sym (s2 .before .byte0 .ensures .0) ∙ s2 .if2 .left) (s3 .if3 .left) (rw (← words) (leb-true _ _ e)) (rw (last)) in
     (kind, none .0, none .1)
 
 pub short-write-spec : {M : Type 1} → statement M
@@ -60,7 +70,6 @@ short-write-spec =
     returns-3
     address-words-requires
     add-body
-    returns-4
     last-requires
-    ends-ok-requires
+    returns-4
     returns-5)

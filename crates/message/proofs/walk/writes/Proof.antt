@@ -1,6 +1,4 @@
--- `message::walk::writes` meets its contract: true for a write alone. Assumes nothing.
-use mathlib.Core.Path.{sym, _∙_}
-use mathlib.Core.Bool.{false≢true}
+-- `message::walk::writes` meets its contract: the arms are the cases of `isWrite`. Assumes nothing.
 use borrow.Author.Needs.{needs}
 use Rattle.message.proofs.walk.writes.Statement.{statement}
 use Rattle.message.proofs.walk.writes.Tie as tie
@@ -21,16 +19,16 @@ enum-told-4 : tie.Need-enum-told-4
 enum-told-4 c = search needs
 
 returns : tie.Need-returns
-returns c e = absurd (false≢true e)
+returns c = rw (← c .before .before .kind-of .ensures, c .enum-told .given .1)
 
 returns-2 : tie.Need-returns-2
-returns-2 c e = sym (c .before .before .kind-of .ensures) ∙ c .enum-told2 .given .1
+returns-2 c = rw (← c .before .before .kind-of .ensures, c .enum-told2 .given .1)
 
 returns-3 : tie.Need-returns-3
-returns-3 c e = absurd (false≢true e)
+returns-3 c = rw (← c .before .before .kind-of .ensures, c .enum-told3 .given .1)
 
 returns-4 : tie.Need-returns-4
-returns-4 c e = absurd (false≢true e)
+returns-4 c = rw (← c .before .before .kind-of .ensures, c .enum-told4 .given .1)
 
 pub writes-spec : {M : Type 1} → statement M
 writes-spec =
