@@ -189,7 +189,8 @@ typedef struct CharkhavoBuilding {
    and the output as they were. The record's pointer is always valid, and the record overlaps
    neither output nor payload. */
 
-/* Begins a message, whatever the record holds. The output is only measured. Refusal: 21. */
+/* Begins a message, whatever the record holds (its bools are 0 or 1 there too). The output is only
+   measured. Refusal: 21. */
 CharkhavoRefusal charkhavo_begin(const uint8_t *output, uint64_t output_length,
                                  CharkhavoBuilding *building,
                                  uint32_t kind, uint32_t tag, bool wide, bool discovery);

@@ -1,8 +1,8 @@
 /* The specification's three worked examples through both libraries, as firmware would run them: a
  * discovery NOP, a read and a write, built, served, and compared with the specification's words;
  * then the same three as a loader sends them, under its own tags, with an answer lost each time.
- * Also what a C caller relies on: how the records are laid out, where a refusal stands, and NULL
- * for what has length 0.
+ * Also what a C caller relies on: how the records are laid out, where a refusal stands, what a
+ * refused building call leaves, and NULL for what has length 0.
  *
  * Prints the words sent and answered; exits with 1 if anything differs. */
 #include "charkhavo.h"
@@ -267,8 +267,9 @@ static void one_short(struct Controller *end) {
                            nop, 4);
     expect_number(sent.refusal, CHARKHAVO_REFUSED_LENT, "an output one byte short");
     CharkhavoBuilding building = CHARKHAVO_NO_BUILDING;
-    expect_number(charkhavo_begin(end->output, bytes - 1, &building, CHARKHAVO_NOP, 0, false, false),
-                  CHARKHAVO_REFUSED_BUILDING, "beginning one byte short");
+    CharkhavoRefusal refusal =
+        charkhavo_begin(end->output, bytes - 1, &building, CHARKHAVO_NOP, 0, false, false);
+    expect_number(refusal, CHARKHAVO_REFUSED_BUILDING, "beginning one byte short");
 }
 
 /* Whether two records are the same, field by field. */
