@@ -1,6 +1,6 @@
 //! Links the two static libraries, from the directory that the variable CHARKHAVO_LIBRARIES
-//! names or else from where `rt staticlib` puts them; with the feature `before` also the
-//! earlier controller that `host/speed` puts there.
+//! names or else from where `host/libraries` puts those of the target that is compiled for; with
+//! the feature `before` also the earlier controller that `host/speed` puts there.
 
 use std::env;
 use std::path::{Path, PathBuf};
@@ -24,7 +24,8 @@ fn place() -> PathBuf {
         Some(place) => PathBuf::from(place),
         None => {
             let package = env::var_os("CARGO_MANIFEST_DIR").expect("cargo names the package");
-            Path::new(&package).join("../target/staticlib")
+            let target = env::var_os("CARGO_CFG_TARGET_ARCH").expect("cargo names the target");
+            Path::new(&package).join("../target/libraries").join(target)
         }
     }
 }
@@ -34,8 +35,8 @@ fn link(place: &Path, name: &str) {
     println!("cargo::rerun-if-changed={}", library.display());
     if !library.is_file() {
         println!(
-            "cargo::error=no library {}: make it by `rt staticlib {name}`, or set {VARIABLE} to \
-             the directory that holds libcontroller.a and libloader.a",
+            "cargo::error=no library {}: make it by `host/libraries`, or set {VARIABLE} to the \
+             directory that holds libcontroller.a and libloader.a",
             library.display()
         );
         return;

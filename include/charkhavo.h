@@ -3,7 +3,8 @@
  * libcontroller.a is the brake and hoist controller's end: one call for each datagram that
  * arrives, charkhavo_serve. libloader.a is the cold-start loader's end: all other calls, which
  * build a message, send it until its answer is accepted, and tell what the answer says. Either
- * may be linked without the other; from elsewhere they need memmove alone.
+ * may be linked without the other; from elsewhere they need memmove alone, on 32-bit Arm also memcpy
+ * and, on armv7a, a division (host/README.md).
  *
  * Nothing over 16 bytes goes by value: a larger record is lent by pointer and changed in place.
  *

@@ -11,7 +11,8 @@ fn main() {
     let mut next = |otherwise| arguments.next().map_or(otherwise, |n| n.expect("a number"));
     let (rounds, messages) = (next(1_001), next(1_000));
     let controllers = controllers();
-    println!("nanoseconds a message, medians of {rounds} rounds of {messages} messages");
+    let on = std::env::consts::ARCH;
+    println!("nanoseconds a message on {on}, medians of {rounds} rounds of {messages} messages");
     print!("{:<40}{:>8}", "", controllers[0].name);
     for other in &controllers[1..] {
         print!("{:>10}{:>8}", other.name, "ratio");
