@@ -1,0 +1,124 @@
+// The replay of a recorded night. A controller of its own serves the records in turn, and each gives a line of text;
+// whoever reads the records and writes the lines out needs to know no more.
+ghost use Prim.Native.Nat.{_≤_};
+ghost use mathlib.Core.Path.{_≡_};
+ghost use lib.ListN.{length};
+ghost use Rattle.completer.specs.Controller.{lent, left};
+ghost use Rattle.night.specs.Text.{tagText, Wrote};
+ghost use Rattle.night.specs.Night.{recordBytes, afterRecord, wholeTurn, turnOf, atFirst, controllerOf, leaves, leftBy};
+use completer::serving;
+use completer::serving::Served;
+use header::limits;
+use header::refusal::Refusal;
+use tags::record::TagRecord;
+
+pub mod text;
+
+// The bytes of a record: its length, and the most bytes of a message.
+pub const RECORD: usize = 4 + limits::LIMIT_BYTES;
+
+// The controller that the night is played to: memory, stored answer and record.
+pub struct Night {
+    memory: [u32; 1024],
+    stored: [u32; limits::LIMIT],
+    tags: TagRecord,
+}
+
+impl Night {
+    // "It starts fresh over 1,024 zero words".
+    pub fn start() -> Night
+        ensures { λ r. ⌜ controllerOf r ≡ atFirst ⌝ }
+    {
+        Night {
+            memory: [0; 1024],
+            stored: [0; limits::LIMIT],
+            tags: TagRecord::fresh(),
+        }
+    }
+}
+
+// What a turn gives: the night then, whether records may follow, and how many bytes of the line it wrote.
+pub struct Turn {
+    pub night: Night,
+    pub more: bool,
+    pub length: usize,
+}
+
+// A whole record served.
+fn serve_record(
+    memory: &mut [u32],
+    stored: &mut [u32],
+    output: &mut [u8],
+    tags: TagRecord,
+    got: &[u8],
+) -> Served
+    requires { ⌜ recordBytes ≤ length (now got) ⌝ }
+    ensures { λ r. ⌜ left (r .refusal) (r .sent)
+        (lent (now (memory .exit)) (now (stored .exit)) (r .tags)) (now (output .exit))
+        ≡ afterRecord
+        (lent (now (memory .entry)) (now (stored .entry)) tags) (now (output .entry)) (now (got .entry)) ⌝ }
+{
+    let n = word::word_at(got, 0) as usize;
+    if n > limits::LIMIT_BYTES {
+        return Served {
+            refusal: Refusal::of(Refusal::LENGTH),
+            sent: 0,
+            tags,
+        };
+    }
+    let end = 4 + n;
+    serving::serve(memory, stored, output, tags, &got[4..end])
+}
+
+// Record k, a whole one: served, and its line.
+fn whole(night: Night, k: u64, got: &[u8], line: &mut [u8; text::MOST]) -> Turn
+    requires { ⌜ recordBytes ≤ length (now got) ⌝ }
+    ensures { λ r. ⌜ leaves (controllerOf (r .night)) (r .more) (r .length) (now (line .exit))
+        ≡ leftBy (wholeTurn (controllerOf night) k (now (got .entry))) (now (line .entry)) ⌝ }
+{
+    let mut memory = night.memory;
+    let mut stored = night.stored;
+    let mut output = [0u8; limits::LIMIT_BYTES];
+    let served = serve_record(&mut memory, &mut stored, &mut output, night.tags, got);
+    let length = text::told(line, k, served.refusal, served.sent / 4);
+    let tags = served.tags;
+    Turn {
+        night: Night {
+            memory,
+            stored,
+            tags,
+        },
+        more: true,
+        length,
+    }
+}
+
+// A turn: what was got of record k, whatever its bytes and length. A whole record, or what begins with one, is served;
+// a shorter one is named as short and ends the night, and so does nothing. The line's other bytes stay.
+pub fn play(night: Night, k: u64, got: &[u8], line: &mut [u8; text::MOST]) -> Turn
+    ensures { λ r. ⌜ leaves (controllerOf (r .night)) (r .more) (r .length) (now (line .exit))
+        ≡ leftBy (turnOf (controllerOf night) k (now (got .entry))) (now (line .entry)) ⌝ }
+{
+    if got.len() == 0 {
+        return Turn {
+            night,
+            more: false,
+            length: 0,
+        };
+    }
+    if got.len() < RECORD {
+        return Turn {
+            night,
+            more: false,
+            length: text::short(line, k),
+        };
+    }
+    whole(night, k, got, line)
+}
+
+// The last line of the night, and its length.
+pub fn last(night: Night, line: &mut [u8; text::MOST]) -> usize
+    ensures { λ r. ⌜ Wrote (now (line .entry)) 0 (tagText (night .tags)) r (now (line .exit)) ⌝ }
+{
+    text::tag(line, night.tags)
+}
