@@ -12,10 +12,13 @@ use header::limits;
 use header::refusal::Refusal;
 use tags::record::TagRecord;
 
-pub mod text;
+mod text;
 
 // The bytes of a record: its length, and the most bytes of a message.
 pub const RECORD: usize = 4 + limits::LIMIT_BYTES;
+
+// The bytes of a line: 74 are enough for three numbers of 64 bits and the words between them.
+pub const LINE: usize = 80;
 
 // The controller that the night is played to: memory, stored answer and record.
 pub struct Night {
@@ -71,7 +74,7 @@ fn serve_record(
 }
 
 // Record k, a whole one: served, and its line.
-fn whole(night: Night, k: u64, got: &[u8], line: &mut [u8; text::MOST]) -> Turn
+fn whole(night: Night, k: u64, got: &[u8], line: &mut [u8; LINE]) -> Turn
     requires { ⌜ recordBytes ≤ length (now got) ⌝ }
     ensures { λ r. ⌜ leaves (controllerOf (r .night)) (r .more) (r .length) (now (line .exit))
         ≡ leftBy (wholeTurn (controllerOf night) k (now (got .entry))) (now (line .entry)) ⌝ }
@@ -95,7 +98,7 @@ fn whole(night: Night, k: u64, got: &[u8], line: &mut [u8; text::MOST]) -> Turn
 
 // A turn: what was got of record k, whatever its bytes and length. A whole record, or what begins with one, is served;
 // a shorter one is named as short and ends the night, and so does nothing. The line's other bytes stay.
-pub fn play(night: Night, k: u64, got: &[u8], line: &mut [u8; text::MOST]) -> Turn
+pub fn play(night: Night, k: u64, got: &[u8], line: &mut [u8; LINE]) -> Turn
     ensures { λ r. ⌜ leaves (controllerOf (r .night)) (r .more) (r .length) (now (line .exit))
         ≡ leftBy (turnOf (controllerOf night) k (now (got .entry))) (now (line .entry)) ⌝ }
 {
@@ -117,7 +120,7 @@ pub fn play(night: Night, k: u64, got: &[u8], line: &mut [u8; text::MOST]) -> Tu
 }
 
 // The last line of the night, and its length.
-pub fn last(night: Night, line: &mut [u8; text::MOST]) -> usize
+pub fn last(night: Night, line: &mut [u8; LINE]) -> usize
     ensures { λ r. ⌜ Wrote (now (line .entry)) 0 (tagText (night .tags)) r (now (line .exit)) ⌝ }
 {
     text::tag(line, night.tags)

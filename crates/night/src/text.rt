@@ -3,11 +3,9 @@ ghost use Prim.Native.Nat.{_+_, _≤_};
 ghost use mathlib.Core.List.{_++_};
 ghost use lib.ListN.{length};
 ghost use Rattle.night.specs.Text.{mostDigits, decimal, Sent, Refused, Short, lineOf, textOf, tagText, Wrote};
+use crate::LINE;
 use header::refusal::Refusal;
 use tags::record::TagRecord;
-
-// The bytes of a line: 74 are enough for three numbers of 64 bits and the words between them.
-pub const MOST: usize = 80;
 
 // Puts a text into the line from index `at` on, and says where it ends.
 fn say(line: &mut [u8], at: usize, text: &[u8]) -> usize
@@ -44,7 +42,7 @@ fn named(line: &mut [u8], at: usize, text: &[u8], n: u64) -> usize
 }
 
 // The line of a record that was served.
-fn sent(line: &mut [u8; MOST], k: u64, words: usize) -> usize
+fn sent(line: &mut [u8; LINE], k: u64, words: usize) -> usize
     ensures { λ r. ⌜ Wrote (now (line .entry)) 0 (textOf k (Sent words)) r (now (line .exit)) ⌝ }
 {
     let at = number(line, 0, k);
@@ -53,7 +51,7 @@ fn sent(line: &mut [u8; MOST], k: u64, words: usize) -> usize
 }
 
 // The line of a record that was refused.
-fn refused(line: &mut [u8; MOST], k: u64, refusal: Refusal) -> usize
+fn refused(line: &mut [u8; LINE], k: u64, refusal: Refusal) -> usize
     ensures { λ r. ⌜ Wrote (now (line .entry)) 0 (textOf k (Refused refusal)) r (now (line .exit)) ⌝ }
 {
     let at = number(line, 0, k);
@@ -63,7 +61,7 @@ fn refused(line: &mut [u8; MOST], k: u64, refusal: Refusal) -> usize
 }
 
 // The line of a record that was whole.
-pub(crate) fn told(line: &mut [u8; MOST], k: u64, refusal: Refusal, words: usize) -> usize
+pub(crate) fn told(line: &mut [u8; LINE], k: u64, refusal: Refusal, words: usize) -> usize
     ensures { λ r. ⌜ Wrote (now (line .entry)) 0 (textOf k (lineOf refusal words)) r (now (line .exit)) ⌝ }
 {
     if refusal.number == 0 {
@@ -73,7 +71,7 @@ pub(crate) fn told(line: &mut [u8; MOST], k: u64, refusal: Refusal, words: usize
 }
 
 // The line of a tail shorter than a record.
-pub(crate) fn short(line: &mut [u8; MOST], k: u64) -> usize
+pub(crate) fn short(line: &mut [u8; LINE], k: u64) -> usize
     ensures { λ r. ⌜ Wrote (now (line .entry)) 0 (textOf k Short) r (now (line .exit)) ⌝ }
 {
     let at = number(line, 0, k);
@@ -81,7 +79,7 @@ pub(crate) fn short(line: &mut [u8; MOST], k: u64) -> usize
 }
 
 // The last line: the stored tag, or that there is none.
-pub(crate) fn tag(line: &mut [u8; MOST], tags: TagRecord) -> usize
+pub(crate) fn tag(line: &mut [u8; LINE], tags: TagRecord) -> usize
     ensures { λ r. ⌜ Wrote (now (line .entry)) 0 (tagText tags) r (now (line .exit)) ⌝ }
 {
     if tags.fresh {

@@ -5,14 +5,14 @@ use night::Night;
 use night::Turn;
 
 // The first n bytes of a line, to standard output.
-fn write(line: [u8; night::text::MOST], n: usize) {
+fn write(line: [u8; night::LINE], n: usize) {
     show::say(show::front(&line, n));
 }
 
 // Record k, or what there is of it, read and played; its line is written.
 fn next(before: Night, k: u64) -> Turn {
     let mut recorded = [0u8; night::RECORD];
-    let mut line = [0u8; night::text::MOST];
+    let mut line = [0u8; night::LINE];
     let n = io::read_full(STDIN_FILENO, &mut recorded);
     let turn = night::play(before, k, show::front(&recorded, n), &mut line);
     write(line, turn.length);
@@ -35,7 +35,7 @@ fn played() -> Night {
 }
 
 fn main() {
-    let mut line = [0u8; night::text::MOST];
+    let mut line = [0u8; night::LINE];
     let n = night::last(played(), &mut line);
     write(line, n);
 }
