@@ -1,5 +1,5 @@
 // Runs every line of the bench sheet on the real call, marked or not, and names what each gave: the refusal or the
-// words sent, the words of memory that a line speaks of, and the record.
+// words sent, the whole memory, and the record.
 use completer::serving;
 use completer::serving::Served;
 use header::limits;
@@ -27,8 +27,8 @@ fn say_sent(n: usize, output: [u8; limits::LIMIT_BYTES]) {
 }
 
 fn say_memory(memory: [u32; 8]) {
-    show::say(b"; words 0 to 3");
-    show::each_word(show::front_words(&memory, 4));
+    show::say(b"; memory");
+    show::each_word(&memory);
 }
 
 fn say_tags(tags: TagRecord) {

@@ -25,17 +25,6 @@ impl Bench {
     pub(crate) fn fresh() -> Bench {
         Bench::of(TagRecord::fresh())
     }
-
-    // The same bench with a fresh record.
-    fn anew(self) -> Bench {
-        let memory = self.memory;
-        let stored = self.stored;
-        Bench {
-            memory,
-            stored,
-            tags: TagRecord::fresh(),
-        }
-    }
 }
 
 // The first bytes of up to 15 words.
@@ -84,11 +73,11 @@ fn held(words: usize) -> Bench {
     })
 }
 
-// What line i starts from: some go on from the line before, or from its memory.
+// What line i starts from: the document's bench, with the record that the line names; (b), (c) and (d) go on from the
+// line before.
 pub(crate) fn start(i: usize, before: Bench) -> Bench {
     match i {
         4 | 5 | 6 | 8 => before,
-        12 | 14 => before.anew(),
         9 => held(1),
         16 => held(limits::LIMIT),
         17 => held(limits::LIMIT + 1),

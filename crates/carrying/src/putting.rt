@@ -11,7 +11,7 @@ ghost use Rattle.answer.specs.Answer.{codeOf};
 ghost use Rattle.carrying.specs.Answers.{advertisement};
 ghost use Rattle.carrying.specs.Putting.{keptIn, Puts};
 use answer::Status;
-use header::limits;
+use tags::record::TagRecord;
 
 // One word of the stored answer, where it is kept.
 fn keep_word(stored: &mut [u32], keep: bool, n: usize, w: u32)
@@ -111,7 +111,7 @@ pub(crate) fn put_run(stored: &mut [u32], output: &mut [u8], keep: bool, n: usiz
     keep_words(stored, keep, n, words);
 }
 
-// The first `count` words of the advertisement: the limit in bytes, then `mark`.
+// The first `count` words of the advertisement: the record's own constant, then `mark`.
 pub(crate) fn put_advert(
     stored: &mut [u32],
     output: &mut [u8],
@@ -131,11 +131,11 @@ pub(crate) fn put_advert(
             return;
         },
         1 => {
-            put_both(stored, output, keep, n, limits::LIMIT_BYTES as u32);
+            put_both(stored, output, keep, n, TagRecord::BYTES as u32);
             return;
         },
         _ => {
-            put_both(stored, output, keep, n, limits::LIMIT_BYTES as u32);
+            put_both(stored, output, keep, n, TagRecord::BYTES as u32);
             put_both(stored, output, keep, n + 1, mark);
         },
     }

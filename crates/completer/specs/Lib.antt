@@ -1,9 +1,10 @@
 -- What the contracts of the crate `completer` cite. Some have no module: Controller is the state that both modules
 -- speak of, Settling what the inside of `serve` goes by, Called what is promised of a call, BenchSheet document 01's
--- lines, which the checker computes.
+-- lines and Examples more calls, which the checker computes.
 pub mod Controller
 pub mod Verdict
 pub mod Serving
 pub mod Settling
 pub mod Called
 pub mod BenchSheet
+pub mod Examples

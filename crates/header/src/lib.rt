@@ -50,7 +50,7 @@ pub fn kind_no(n: u32) -> Kind
         0 => Kind::Nop,
         1 => Kind::Write,
         2 => Kind::Read,
-        _ => Kind::Response,
+        3.. => Kind::Response,
     }
 }
 

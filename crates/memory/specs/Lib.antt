@@ -1,3 +1,5 @@
--- What the contracts of the crate `memory` cite, and what is promised of memory: Promises has no module.
+-- What the contracts of the crate `memory` cite. Promises, what is promised of memory, and Examples, figures that the
+-- checker computes, have no module.
 pub mod Moves
 pub mod Promises
+pub mod Examples

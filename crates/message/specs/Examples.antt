@@ -1,16 +1,16 @@
 -- Worked and hostile examples, from bytes, with the refusal that each must get. `proofs/Laws/Worked.antt` computes
 -- them. Assumes nothing.
-use Prim.Native.Nat.{ℕ, zero, suc, _+_}
+use Prim.Native.Nat.{ℕ, zero, suc}
 use mathlib.Core.Path.{_≡_}
-use mathlib.Core.Bool.{Bool, true, _&&_}
+use mathlib.Core.Bool.{Bool, true, false, cond, _&&_}
 use mathlib.Core.List.{List, [], _∷_}
 use lib.Dec.{eqb}
+use lib.ListN.{length}
 use Rattle.word.specs.Words.{bytesOf}
-use Rattle.header.specs.declared.Kind.the-variants.{Write}
+use Rattle.header.specs.declared.Kind.the-variants.{Nop, Write, Read as Reads}
 use Rattle.header.specs.declared.refusal.Refusal.{Refusal}
-use Rattle.header.specs.Header.{bit}
 use Rattle.header.specs.Refusal.{refusedAt, refusal}
-use Rattle.message.specs.Faults.{enablesOk}
+use Rattle.message.specs.Faults.{countOk, enablesOk}
 use Rattle.message.specs.Request.{refusalIn}
 use Rattle.message.specs.Walk.{read}
 use Rattle.message.specs.Discovery.{discoveryBytes}
@@ -57,6 +57,28 @@ requests =
     ∷ words (0x80010010 ∷ 0x00000004 ∷ 0xFEEDC0DE ∷ []) 0
     ∷ words (openWrite (0x80010F10 ∷ 0x00000020 ∷ 0x22222222 ∷ [])) 0
     ∷ words (0x80010F50 ∷ 0x00000004 ∷ 0x00000001 ∷ 0x00000000 ∷ []) 0
+    -- in bytes: the low byte of a word comes first, and not the high one
+    ∷ bytes (0x10 ∷ 0x0F ∷ 0x01 ∷ 0x80 ∷ 0x04 ∷ 0x00 ∷ 0x00 ∷ 0x00 ∷ 0xDE ∷ 0xC0 ∷ 0xED ∷ 0xFE ∷ []) 0
+    ∷ bytes (0x80 ∷ 0x01 ∷ 0x0F ∷ 0x10 ∷ 0x00 ∷ 0x00 ∷ 0x00 ∷ 0x04 ∷ 0xFE ∷ 0xED ∷ 0xC0 ∷ 0xDE ∷ []) 6
+    -- "a NOP carries count words and no address", also with bit 6, and byte 1 is not looked at: counts 1 and 2, a word
+    -- too few, a word too many
+    ∷ words (0x80010000 ∷ 0x11111111 ∷ []) 0
+    ∷ words (0x80020000 ∷ 0x11111111 ∷ 0x22222222 ∷ []) 0
+    ∷ words (0x80020000 ∷ 0x11111111 ∷ []) 3
+    ∷ words (0x80010000 ∷ 0x11111111 ∷ 0x22222222 ∷ []) 9
+    ∷ words (0x80000000 ∷ 0x11111111 ∷ []) 9
+    ∷ words (0x80000040 ∷ []) 0
+    ∷ words (0x80010040 ∷ 0x11111111 ∷ []) 0
+    ∷ words (0x8001FFCF ∷ 0x11111111 ∷ []) 0
+    -- "a read carries its address only", whatever its count and byte 1: in 32 and in 64 bits, a word too few, a word too
+    -- many; two reads; a NOP of 2, one of 0 and one of 1
+    ∷ words (0x80021F20 ∷ 0x0000000C ∷ []) 0
+    ∷ words (0x80010020 ∷ []) 3
+    ∷ words (0x80010020 ∷ 0x00000010 ∷ 0x00000000 ∷ []) 9
+    ∷ words (0x80010060 ∷ 0x00000010 ∷ 0x00000000 ∷ []) 0
+    ∷ words (0x80010060 ∷ 0x00000010 ∷ []) 3
+    ∷ words (0x00020020 ∷ 0x00000010 ∷ 0x80010020 ∷ 0x00000010 ∷ []) 0
+    ∷ words (0x00020000 ∷ 0x11111111 ∷ 0x22222222 ∷ 0x00000000 ∷ 0x80010000 ∷ 0x33333333 ∷ []) 0
     -- nothing, and three bytes; truncated in a header, in an address, in a second address word, in a body
     ∷ bytes [] 2
     ∷ bytes (16 ∷ 15 ∷ 1 ∷ []) 2
@@ -80,6 +102,8 @@ requests =
     ∷ words (0x90010F10 ∷ 0x00000004 ∷ 0x00000000 ∷ []) 6
     ∷ words (0xA0010F10 ∷ 0x00000004 ∷ 0x00000000 ∷ []) 6
     ∷ words (0xC0010F10 ∷ 0x00000004 ∷ 0x00000000 ∷ []) 6
+    ∷ words (0xC0010020 ∷ 0x00000010 ∷ []) 6
+    ∷ words (0x90000000 ∷ []) 6
     -- count 0 of a write and of a read; 3 of a NOP; 4,095 of a NOP, of a write and of a read
     ∷ words (0x80000F10 ∷ 0x00000004 ∷ []) 7
     ∷ words (0x80000020 ∷ 0x00000004 ∷ []) 7
@@ -121,6 +145,34 @@ requests =
     ∷ words (0x80011F10 ∷ []) 3
     ∷ words (0x80011F50 ∷ 0x00000004 ∷ []) 3
     ∷ words (0x80011F10 ∷ 0x00000004 ∷ []) 8
+    -- each neighbouring pair of the order: 2 and the rest; 4 and 5, 6, 3; 5 and 6, 7, 3; 6 and 7
+    ∷ bytes (0x30 ∷ 0x00 ∷ 0x00 ∷ 0x80 ∷ 0x00 ∷ []) 2
+    ∷ wordsAt (openWrite (0x80010F31 ∷ [])) 4 3
+    ∷ wordsAt (openWrite (0x90010F11 ∷ 0x00000004 ∷ 0x22222222 ∷ [])) 4 3
+    ∷ wordsAt (openWrite (0x80010F11 ∷ [])) 4 3
+    ∷ words (0x90010030 ∷ []) 5
+    ∷ words (0x80010030 ∷ []) 5
+    ∷ words (0xF0030000 ∷ []) 6
+    ∷ words (0x90000020 ∷ 0x00000010 ∷ []) 6
+    -- 7 and 3, of an address and of data; 7 and 8; 7 and 9; 3 and 8, 8 and 3, by gaps too; 8 and 9
+    ∷ words (0x80000020 ∷ []) 7
+    ∷ words (0x80030000 ∷ []) 7
+    ∷ words (0x80001F10 ∷ 0x00000004 ∷ []) 7
+    ∷ words (0x80000F10 ∷ 0x00000004 ∷ 0x11111111 ∷ []) 7
+    ∷ words (0x8002A510 ∷ []) 3
+    ∷ words (0x8002A510 ∷ 0x0000000C ∷ []) 8
+    ∷ words (0x8002A510 ∷ 0x00000008 ∷ []) 3
+    ∷ words (0x80011F10 ∷ 0x00000004 ∷ 0x11111111 ∷ 0x22222222 ∷ []) 8
+    -- 9 and 10; 3 and 10, no word there; 10 in 64 bits, and as a discovery
+    ∷ words (0x88C30020 ∷ 0x00000000 ∷ 0x00000000 ∷ []) 9
+    ∷ wordsAt (0x08C30020 ∷ 0x00000000 ∷ []) 3 2
+    ∷ words (0x88C300E0 ∷ 0x00000000 ∷ 0x00000000 ∷ []) 10
+    -- faults of two headers: the first decides, 6 or 8 before 4, and each before 10
+    ∷ words (0x10010F10 ∷ 0x00000000 ∷ 0x11111111 ∷ 0x80010F11 ∷ 0x00000004 ∷ 0x22222222 ∷ []) 6
+    ∷ words (0x00011F10 ∷ 0x00000000 ∷ 0x11111111 ∷ 0x80010F11 ∷ 0x00000004 ∷ 0x22222222 ∷ []) 8
+    ∷ wordsAt (openWrite (0x00000F10 ∷ 0x00000004 ∷ 0x90010F10 ∷ 0x00000008 ∷ 0x22222222 ∷ [])) 7 3
+    ∷ wordsAt (0x08C30020 ∷ 0x00000000 ∷ 0x80000020 ∷ 0x00000000 ∷ []) 7 2
+    ∷ wordsAt (0x00020000 ∷ 0x11111111 ∷ 0x22222222 ∷ 0x00000000 ∷ 0x80030000 ∷ []) 7 4
     -- at a later header: each of the others that one can get, 9 at LAST itself; 4 at the fifth; no word there behind
     -- two
     ∷ wordsAt (openWrite (0x80010F10 ∷ [])) 3 3
@@ -136,16 +188,50 @@ requests =
 abbrev pub right : Example → Bool
 right e = sameRefusal (refusalIn (read (e .datagram))) (e .given)
 
--- how many of the first n patterns of byte 1 a write of this count at this address may have
-unfoldable pub patterns : ℕ → ℕ → ℕ → ℕ
-patterns zero count address = 0
-patterns (suc n) count address = bit (enablesOk Write count address n) + patterns n count address
+-- which of the first n patterns of byte 1, the highest first, a write of this count at this address may have, and how
+-- many
+unfoldable pub patterns : ℕ → ℕ → ℕ → List ℕ
+patterns zero count address = []
+patterns (suc n) count address = cond (enablesOk Write count address n) (n ∷ patterns n count address)
+    (patterns n count address)
+
+abbrev pub counted : ℕ → ℕ → ℕ
+counted count address = length (patterns 256 count address)
+
+-- the four of the last field's list, each with the four of the first's
+abbrev pub gaplessPatterns : List ℕ
+gaplessPatterns = 0xFF ∷ 0xFE ∷ 0xFC ∷ 0xF8 ∷ 0x7F ∷ 0x7E ∷ 0x7C ∷ 0x78 ∷ 0x3F ∷ 0x3E ∷ 0x3C ∷ 0x38 ∷ 0x1F ∷ 0x1E ∷ 0x1C
+    ∷ 0x18
+    ∷ []
 
 -- of all 256: any first field; any two but 0; and, at 12 or with more words, the four of the one list with the four of
 -- the other
 abbrev pub PatternsCounted : Type 0
-PatternsCounted = (patterns 256 1 12 ≡ 16) × (patterns 256 2 8 ≡ 225) × (patterns 256 2 12 ≡ 16)
-    × (patterns 256 3 8 ≡ 16)
+PatternsCounted = (counted 1 12 ≡ 16) × (counted 1 8 ≡ 16) × (counted 2 8 ≡ 225)
+    × (patterns 256 2 12 ≡ gaplessPatterns)
+    × (patterns 256 3 8 ≡ gaplessPatterns)
+    × (patterns 256 4 8 ≡ gaplessPatterns)
+
+-- at which of the first n addresses, the highest first, a write of this count may have 5 and A: with gaps, both nonzero
+unfoldable pub gapsAt : ℕ → ℕ → List ℕ
+gapsAt zero count = []
+gapsAt (suc n) count = cond (enablesOk Write count n 0xA5) (n ∷ gapsAt n count) (gapsAt n count)
+
+-- "for count 2 at an address that is a multiple of 8", and for no count above
+abbrev pub GapsShown : Type 0
+GapsShown = (gapsAt 40 2 ≡ 32 ∷ 24 ∷ 16 ∷ 8 ∷ 0 ∷ []) × (gapsAt 40 1 ≡ []) × (gapsAt 40 3 ≡ []) × (gapsAt 40 4 ≡ [])
+    × (gapsAt 40 8 ≡ [])
+    × (gapsAt 40 4095 ≡ [])
+
+-- "Count is 1 to 4,095 for writes and reads, 0 to 2 for NOPs"
+abbrev pub CountsShown : Type 0
+CountsShown = (countOk Write 0 ≡ false) × (countOk Write 1 ≡ true) × (countOk Write 4095 ≡ true)
+    × (countOk Reads 0 ≡ false)
+    × (countOk Reads 1 ≡ true)
+    × (countOk Reads 4095 ≡ true)
+    × (countOk Nop 0 ≡ true)
+    × (countOk Nop 2 ≡ true)
+    × (countOk Nop 3 ≡ false)
 
 -- [6] "the fixed discovery 80020080 0000230C 00000000"
 abbrev pub DiscoveryShown : Type 0

@@ -42,7 +42,7 @@ fn zeros_ok(count: usize, first: u32, last: u32) -> bool
         1 => last == 0,
         _ => match first {
             0 => false,
-            _ => last != 0,
+            1.. => last != 0,
         },
     }
 }
@@ -52,9 +52,10 @@ fn gaps_ok(count: usize, address: u64) -> bool
     ensures { λ r. ⌜ r ≡ gapsOk count address ⌝ }
 {
     match count {
+        0 => false,
         1 => true,
         2 => address % 8 == 0,
-        _ => false,
+        3.. => false,
     }
 }
 

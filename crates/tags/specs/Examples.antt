@@ -1,11 +1,14 @@
 -- Records and tags in figures. `proofs/Laws/Worked.antt` computes them. Assumes nothing.
-use Prim.Native.Nat.{ℕ}
+use Prim.Native.Nat.{ℕ, zero, suc, _+_}
 use mathlib.Core.Path.{_≡_}
 use mathlib.Core.Bool.{true, false}
+use mathlib.Core.List.{List, [], _∷_}
+use lib.ListN.{replicate}
 use Rattle.header.specs.Refusal.{refusal}
 use Rattle.tags.specs.declared.record.TagRecord.{TagRecord}
+use Rattle.tags.specs.declared.rule.Verdict.{Verdict}
 use Rattle.tags.specs.declared.rule.Verdict.the-variants.{Refused, New, Repeat, Discovery}
-use Rattle.tags.specs.Record.{freshRecord, markOf, recordOk, keptOk}
+use Rattle.tags.specs.Record.{freshRecord, markOf, mostMemory, recordOk, keptOk, recordBy}
 use Rattle.tags.specs.Rule.{ruleOf}
 
 -- a record that holds a tag and the length of its answer
@@ -22,12 +25,22 @@ pub record RecordsShown : Type 0 where
   pub fresh : recordOk (record { fresh = true; tag = 16; words = 2244 }) ≡ true
   pub stored : keptOk 2243 freshRecord ≡ true
   pub short : keptOk 2242 freshRecord ≡ false
+  pub longer : keptOk 2244 (holding 0 1) ≡ true
+  pub both : keptOk 2243 (holding 16 1) ≡ false
+  pub memory : mostMemory ≡ 16384
 
 -- "word 1 is the stored tag at entry plus 16, or 0 where none is stored"
 pub record MarksShown : Type 0 where
   pub none : markOf freshRecord ≡ 0
   pub first : markOf (holding 0 1) ≡ 16
   pub last : markOf (holding 15 1) ≡ 31
+
+-- "store tag and answer"; "tag and stored answer stay"
+pub record KeepingShown : Type 0 where
+  pub first : recordBy true freshRecord 0x1F 1 ≡ holding 15 1
+  pub next : recordBy true (holding 15 1) 0x50 2243 ≡ holding 0 2243
+  pub stays : recordBy false (holding 3 2) 0x94 5 ≡ holding 3 2
+  pub fresh : recordBy false freshRecord 0x94 5 ≡ freshRecord
 
 -- byte 0 of writes of tag 0, 1, 2, 14 and 15, and of a discovery of tag 2, against a stored tag: "Stored tag 15: tag 0
 -- is new"
@@ -40,3 +53,27 @@ pub record RulesShown : Type 0 where
   pub wrapped : ruleOf (holding 15 1) 0x10 ≡ New
   pub late : ruleOf (holding 15 1) 0x1E ≡ Refused (refusal 11)
   pub asked : ruleOf (holding 0 1) 0x92 ≡ Discovery
+
+-- a verdict's number: 0 new, 1 a repeat, 2 a discovery, or its refusal's
+abbrev pub verdictNo : Verdict → ℕ
+verdictNo (Refused r) = r .number
+verdictNo New = 0
+verdictNo Repeat = 1
+verdictNo Discovery = 2
+
+-- the verdicts on the first n tags, the highest first, in a byte 0 that has this besides
+unfoldable pub verdicts : TagRecord → ℕ → ℕ → List ℕ
+verdicts tags byte0 zero = []
+verdicts tags byte0 (suc n) = verdictNo (ruleOf tags (byte0 + n)) ∷ verdicts tags byte0 n
+
+-- all 16 tags: fresh, against the stored tags 0, 7 and 15, and as discoveries. The kind and bit 6 are not looked at.
+pub record AllTagsShown : Type 0 where
+  pub fresh : verdicts freshRecord 0x10 16 ≡ replicate 16 0
+  pub held0 : verdicts (holding 0 1) 0x10 16
+      ≡ 11 ∷ 11 ∷ 11 ∷ 11 ∷ 11 ∷ 11 ∷ 11 ∷ 11 ∷ 11 ∷ 11 ∷ 11 ∷ 11 ∷ 11 ∷ 11 ∷ 0 ∷ 1 ∷ []
+  pub held7 : verdicts (holding 7 1) 0x60 16
+      ≡ 11 ∷ 11 ∷ 11 ∷ 11 ∷ 11 ∷ 11 ∷ 11 ∷ 0 ∷ 1 ∷ 11 ∷ 11 ∷ 11 ∷ 11 ∷ 11 ∷ 11 ∷ 11 ∷ []
+  pub held15 : verdicts (holding 15 1) 0x00 16
+      ≡ 1 ∷ 11 ∷ 11 ∷ 11 ∷ 11 ∷ 11 ∷ 11 ∷ 11 ∷ 11 ∷ 11 ∷ 11 ∷ 11 ∷ 11 ∷ 11 ∷ 11 ∷ 0 ∷ []
+  pub asked : verdicts (holding 7 1) 0x90 16 ≡ replicate 16 2
+  pub askedFresh : verdicts freshRecord 0x80 16 ≡ replicate 16 2

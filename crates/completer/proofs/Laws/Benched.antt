@@ -1,4 +1,4 @@
--- The marked lines of the bench sheet: computed. Assumes nothing.
+-- The marked lines of the bench sheet, more calls, and what is lent in figures: computed. Assumes nothing.
 use mathlib.Core.Path.{refl}
 use Rattle.word.specs.Words.{wordsOf, bytesOf, put, putWords}
 use Rattle.word.specs.Enables.{byteOf, bitOf, ofBytes, merged}
@@ -16,7 +16,35 @@ use Rattle.tags.specs.Record.{markOf, heldOk, recordOk, keptOk}
 use Rattle.completer.specs.Verdict.{lentOk, verdictBy}
 use Rattle.completer.specs.Serving.{answerBy, after}
 use Rattle.completer.specs.BenchSheet.{plays, same, sameRecord, benchStart, right, every, benchSheet, BenchHolds}
+use Rattle.completer.specs.Examples.{carriedLines, taggedLines, CallsHold, rightKept, everyKept, keptLines, KeptHolds, LentShown}
 
 pub benched : BenchHolds
 unfolding wordsOf bytesOf put putWords byteOf bitOf ofBytes merged kindNo byte0From headerFrom headOf patternOk faultOf stepOn addressFrom commandOf commandsFrom replies ended lengthOk read answerByte answeredWords answerWords outside fetches storesBehind stores moves afterMoves memoryAfter answerOf answers answerTo wordsTo requestOf repeats expected markOf lentOk heldOk recordOk keptOk ruleOf verdictBy answerBy after plays same sameRecord benchStart right every benchSheet
 benched = refl
+
+pub calls-hold : CallsHold
+unfolding wordsOf bytesOf put putWords byteOf bitOf ofBytes merged kindNo byte0From headerFrom headOf patternOk faultOf stepOn addressFrom commandOf commandsFrom replies ended lengthOk read answerByte answeredWords answerWords outside fetches storesBehind stores moves afterMoves memoryAfter answerOf answers answerTo wordsTo requestOf repeats expected markOf lentOk heldOk recordOk keptOk ruleOf verdictBy answerBy after plays same sameRecord benchStart right every carriedLines taggedLines
+calls-hold = (refl, refl)
+
+pub kept-holds : KeptHolds
+unfolding wordsOf bytesOf put putWords byteOf bitOf ofBytes merged kindNo byte0From headerFrom headOf patternOk faultOf stepOn addressFrom commandOf commandsFrom replies ended lengthOk read answerByte answeredWords answerWords outside fetches storesBehind stores moves afterMoves memoryAfter answerOf answers answerTo wordsTo requestOf repeats expected markOf lentOk heldOk recordOk keptOk ruleOf verdictBy answerBy after plays same benchStart rightKept everyKept keptLines
+kept-holds = refl
+
+pub lent-shown : LentShown
+unfolding wordsOf bytesOf kindNo headOf faultOf stepOn addressFrom commandOf commandsFrom replies ended lengthOk read repeats expected lentOk heldOk recordOk keptOk ruleOf verdictBy patternOk
+lent-shown =
+    record {
+      noMemory = refl;
+      least = refl;
+      most = refl;
+      over = refl;
+      farOver = refl;
+      short = refl;
+      longer = refl;
+      fine = refl;
+      two = refl;
+      memory = refl;
+      stored = refl;
+      output = refl;
+      all = refl;
+    }

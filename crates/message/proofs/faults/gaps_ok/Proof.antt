@@ -10,7 +10,10 @@ returns-2 : tie.Need-returns-2
 returns-2 c = rw (c .match .keys2)
 
 returns-3 : tie.Need-returns-3
-returns-3 c = search tests
+returns-3 c = rw (c .match .keys3)
+
+returns-4 : tie.Need-returns-4
+returns-4 c = search tests
 
 pub gaps-ok-spec : {M : Type 1} → statement M
-gaps-ok-spec = tie.close (tie.spec returns returns-2 returns-3)
+gaps-ok-spec = tie.close (tie.spec returns returns-2 returns-3 returns-4)
