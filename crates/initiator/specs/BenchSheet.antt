@@ -5,7 +5,7 @@ use mathlib.Core.Path.{_≡_}
 use mathlib.Core.Bool.{Bool, true, false, _&&_}
 use mathlib.Core.List.{List, [], _∷_}
 use lib.Dec.{eqb}
-use lib.ListN.{getD}
+use lib.ListN.{getD, replicate}
 use Rattle.word.specs.Words.{bytesOf}
 use Rattle.header.specs.declared.refusal.Refusal.{Refusal}
 use Rattle.header.specs.Header.{kindOf}
@@ -20,7 +20,7 @@ use Rattle.initiator.specs.declared.outcome.Ending.{Ending}
 use Rattle.initiator.specs.declared.outcome.Ending.the-variants.{Absent, Ended}
 use Rattle.initiator.specs.declared.outcome.Outcome.{Outcome}
 use Rattle.initiator.specs.Outcome.{judgedBy, partIn, cut, dataIn, outcomeOf}
-use Rattle.initiator.specs.Sender.{offerOf, sendOf, sendFault, takeOf, startOf}
+use Rattle.initiator.specs.Sender.{freshSender, offerOf, sendOf, sendFault, takeOf, startOf}
 
 -- a line: what a call gives, and what it must give
 pub record Line (A : Type 0) : Type 0 where
@@ -78,6 +78,7 @@ offers =
     ∷ offerRefused (waiting 0) (twoWrites 0x90010F10) 36 0
     -- 31: what 2, 3, 6 at a later header, and 10 refuse; the discovery bit; a tag one more, one less, and 0 for 15
     ∷ offerRefused (idle 0) [] 31 0
+    ∷ offerRefused (idle 0) (replicate 8976 0) 31 0
     ∷ offerRefused (idle 0) (write 0x00010F10) 31 3
     ∷ offerRefused (idle 0) (twoWrites 0x90010F10) 31 3
     ∷ offerRefused (idle 0) (bytesOf (0x88C30020 ∷ 0x00000000 ∷ [])) 31 0
@@ -89,8 +90,9 @@ offers =
     -- 31's causes in their order: no LAST before the discovery bit, and before the tag
     ∷ offerRefused (idle 0) (write 0x00010F90) 31 3
     ∷ offerRefused (idle 1) (write 0x00010F10) 31 3
-    -- none
+    -- none; an answer of 2,243 words
     ∷ offered 0 writeA
+    ∷ offered 0 (bytesOf (0x88C20020 ∷ 0x00000000 ∷ []))
     ∷ offered 15 (write 0x80010F1F)
     ∷ offered 0 readTwo
     ∷ offered 0 (bytesOf (0x80000000 ∷ []))
@@ -154,8 +156,10 @@ takes =
     ∷ takeRefused (waiting 0) (write 0x80010F90) [] 31 0
     ∷ takeRefused (waiting 1) writeA [] 31 0
     ∷ takeRefused (waiting 0) (write 0x80010F90) (bytesOf (0x800000B0 ∷ [])) 31 0
-    -- 32, before 33; 33, before 34; 34, before 35; 35
+    -- 32, before 33, also of a word past the limit; 33, before 34; 34, before 35; 35
     ∷ takeRefused (waiting 0) writeA (0x31 ∷ 0x00 ∷ 0x00 ∷ []) 32 0
+    ∷ takeRefused (waiting 0) writeA (replicate 8976 0x31) 32 0
+    ∷ takeRefused (waiting 0) writeA (replicate 8972 0x31) 33 0
     ∷ takeRefused (waiting 0) writeA (bytesOf (0x90000031 ∷ [])) 33 0
     ∷ takeRefused (waiting 0) writeA (bytesOf (0x10000030 ∷ [])) 34 0
     ∷ takeRefused (waiting 0) (twoWrites 0x80010F10) (bytesOf (0x00000030 ∷ 0x00000330 ∷ [])) 34 1
@@ -320,8 +324,9 @@ outcomes =
     ∷ silent threeReads (bytesOf (0x00010032 ∷ 0x11111111 ∷ [])) 35 2
     ∷ []
 
--- every line holds
+-- "A sender starts with next tag 0 for a fresh pair", and every line holds
 pub record BenchHolds : Type 0 where
+  pub fresh : freshSender ≡ idle 0
   pub offers : All Right offers
   pub sends : All Right sends
   pub takes : All Right takes
