@@ -41,7 +41,7 @@ fn status_no(n: u32) -> Status
     match n {
         0 => Status::Ok,
         1 => Status::Timeout,
-        _ => Status::Error,
+        2.. => Status::Error,
     }
 }
 

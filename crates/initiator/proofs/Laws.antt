@@ -1,5 +1,6 @@
 -- The laws of the crate `initiator`: its promises, and what the crates above cite.
 pub mod Asked
+pub mod Benched
 pub mod Checked
 pub mod Outcomes
 pub mod Promises

@@ -1,7 +1,8 @@
--- What the contracts of the crate `initiator` cite, and what is promised of the sender. Promises and Telling have no
--- module: the one is what is promised, the other what the inside of `told` goes by.
+-- What the contracts of the crate `initiator` cite, and what is promised of the sender. Promises, Telling and
+-- BenchSheet have no module: what is promised, what the inside of `told` goes by, and lines that the checker computes.
 pub mod Asking
 pub mod Outcome
 pub mod Telling
 pub mod Sender
 pub mod Promises
+pub mod BenchSheet
