@@ -6,6 +6,7 @@ use building::build;
 use completer::serving;
 use completer::serving::Served;
 use header::limits;
+use header::refusal::Refusal;
 use initiator::outcome;
 use initiator::sender;
 use initiator::sender::Sender;
@@ -69,6 +70,31 @@ fn compose(i: u32) -> Bytes {
     Bytes { bytes, n }
 }
 
+// What comes to an end, by its place in the text.
+const DISCOVERY: usize = 0;
+
+const ITS_ANSWER: usize = 1;
+
+const OLD_ANSWER: usize = 2;
+
+const ARRIVES: usize = 3;
+
+const AGAIN: usize = 4;
+
+const ANSWER: usize = 5;
+
+fn say(i: usize) {
+    show::line(
+        b"discovery
+its answer
+old answer
+arrives
+again
+answer",
+        i,
+    );
+}
+
 fn say_served(served: Served) {
     let refusal = served.refusal;
     show::number(b": refusal ", refusal.number as u64);
@@ -102,13 +128,16 @@ fn say_data(message: &[u8], answer: &[u8]) {
     show::bytes(outcome::read_data(message, answer, 0));
 }
 
+fn say_refusal(refusal: Refusal, next: u32) {
+    show::number(b": refusal ", refusal.number as u64);
+    show::number(b", next ", next as u64);
+}
+
 // An answer comes to the sender.
 fn back(s: Sender, message: &[u8], answer: &[u8]) -> Sender {
     let moved = sender::take(s, message, answer);
-    let refusal = moved.refusal;
     let then = moved.sender;
-    show::number(b": refusal ", refusal.number as u64);
-    show::number(b", next ", then.next as u64);
+    say_refusal(moved.refusal, then.next);
     if then.waits {
         show::say(b", waiting\n");
         return then;
@@ -137,7 +166,7 @@ fn offered(s: Sender, message: &[u8], i: u32) -> Sender {
 // A discovery comes, and its answer.
 fn discovered(c: Controller) -> Arrived {
     let asks = discovery::bytes();
-    show::say(b"discovery");
+    say(DISCOVERY);
     arrives(c, &asks)
 }
 
@@ -159,7 +188,7 @@ fn again(s: Sender, message: &[u8], before: Bytes) -> Sender {
     if before.n == 0 {
         return s;
     }
-    show::say(b"old answer");
+    say(OLD_ANSWER);
     comes_back(s, message, before)
 }
 
@@ -169,7 +198,7 @@ fn evening(ends: Ends, message: &[u8], i: u32) -> Ends {
     let s = offered(ends.sender, message, i);
     let arrived = discovered(ends.controller);
     let controller = arrived.controller;
-    show::say(b"its answer");
+    say(ITS_ANSWER);
     let s = comes_back(s, message, arrived.answer);
     let before = ends.before;
     let s = again(s, message, before);
@@ -182,9 +211,9 @@ fn evening(ends: Ends, message: &[u8], i: u32) -> Ends {
 
 // What is sent comes twice, and sends of the message before and of the fourteenth before come late.
 fn arrivals(c: Controller, datagram: &[u8], i: u32) -> Arrived {
-    show::say(b"arrives");
+    say(ARRIVES);
     let first = arrives(c, datagram);
-    show::say(b"again");
+    say(AGAIN);
     let second = arrives(first.controller, datagram);
     let answer = second.answer;
     let controller = late(late(second.controller, i, 1), i, 14);
@@ -201,7 +230,7 @@ fn part(ends: Ends, i: u32) -> Ends {
     let arrived = arrivals(ends.controller, sender::send(s, message), i);
     let controller = arrived.controller;
     let before = arrived.answer;
-    show::say(b"answer");
+    say(ANSWER);
     let s = comes_back(s, message, before);
     Ends {
         sender: s,
@@ -236,6 +265,12 @@ fn night() -> Ends {
     ends
 }
 
+fn say_end(next: u32, tag: u32) {
+    show::number(b"next ", next as u64);
+    show::number(b", stored ", tag as u64);
+    show::say(b"\n");
+}
+
 fn main() {
     let ends = night();
     let c = ends.controller;
@@ -244,7 +279,5 @@ fn main() {
     show::words(&memory);
     let s = ends.sender;
     let tags = c.tags;
-    show::number(b"next ", s.next as u64);
-    show::number(b", stored ", tags.tag as u64);
-    show::say(b"\n");
+    say_end(s.next, tags.tag);
 }
