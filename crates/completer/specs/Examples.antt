@@ -57,6 +57,9 @@ carriedLines =
     ∷ line freshRecord ((0x80010F10 ∷ 0x0000001C ∷ 0x77777777 ∷ []) ∷ []) 0 (0x80000030 ∷ [])
     (0 ∷ 0 ∷ 0 ∷ 0 ∷ 0xF00DFACE ∷ 0 ∷ 0 ∷ 0x77777777 ∷ [])
     (holding 0 1)
+    -- no byte enabled: inside memory OK, and past its end an Error all the same
+    ∷ quiet (0x80010010 ∷ 0x00000004 ∷ 0x11111111 ∷ []) (0x80000030 ∷ []) (holding 0 1)
+    ∷ quiet (0x80010010 ∷ 0x00000020 ∷ 0x11111111 ∷ []) (0x80000230 ∷ []) (holding 0 1)
     -- four words: the first under C, the last under 3, the middle ones whole
     ∷ line freshRecord ((0x80043C10 ∷ 0x00000000 ∷ 0x11111111 ∷ 0x22222222 ∷ 0x33333333 ∷ 0x44444444 ∷ []) ∷ []) 0
     (0x80000030 ∷ [])

@@ -173,8 +173,8 @@ requests =
     ∷ wordsAt (openWrite (0x00000F10 ∷ 0x00000004 ∷ 0x90010F10 ∷ 0x00000008 ∷ 0x22222222 ∷ [])) 7 3
     ∷ wordsAt (0x08C30020 ∷ 0x00000000 ∷ 0x80000020 ∷ 0x00000000 ∷ []) 7 2
     ∷ wordsAt (0x00020000 ∷ 0x11111111 ∷ 0x22222222 ∷ 0x00000000 ∷ 0x80030000 ∷ []) 7 4
-    -- at a later header: each of the others that one can get, 9 at LAST itself; 4 at the fifth; no word there behind
-    -- two
+    -- at a later header: each of the others that one can get, 9 at LAST itself; 4 at the fifth; behind 64 bits; no word
+    -- there behind two
     ∷ wordsAt (openWrite (0x80010F10 ∷ [])) 3 3
     ∷ wordsAt (openWrite (0x80010F10 ∷ 0x00000004 ∷ [])) 3 3
     ∷ wordsAt (openWrite (0x90010F10 ∷ 0x00000004 ∷ 0x22222222 ∷ [])) 6 3
@@ -182,6 +182,8 @@ requests =
     ∷ wordsAt (openWrite (gapped 12)) 8 3
     ∷ wordsAt (openWrite (0x80010F10 ∷ 0x00000004 ∷ 0x22222222 ∷ 0x00000000 ∷ [])) 9 3
     ∷ wordsAt fifthDiffers 4 12
+    ∷ wordsAt (0x00010F50 ∷ 0x00000004 ∷ 0x00000000 ∷ 0x11111111 ∷ 0x90010F50 ∷ []) 6 4
+    ∷ wordsAt (0x00020060 ∷ 0x00000004 ∷ 0x00000000 ∷ 0x80000060 ∷ []) 7 3
     ∷ wordsAt (openWrite (openWrite [])) 3 6
     ∷ []
 

@@ -34,6 +34,7 @@ pub record MarksShown : Type 0 where
   pub none : markOf freshRecord ≡ 0
   pub first : markOf (holding 0 1) ≡ 16
   pub last : markOf (holding 15 1) ≡ 31
+  pub unlooked : markOf (record { fresh = true; tag = 7; words = 1 }) ≡ 0
 
 -- "store tag and answer"; "tag and stored answer stay"
 pub record KeepingShown : Type 0 where
@@ -77,3 +78,4 @@ pub record AllTagsShown : Type 0 where
       ≡ 1 ∷ 11 ∷ 11 ∷ 11 ∷ 11 ∷ 11 ∷ 11 ∷ 11 ∷ 11 ∷ 11 ∷ 11 ∷ 11 ∷ 11 ∷ 11 ∷ 11 ∷ 0 ∷ []
   pub asked : verdicts (holding 7 1) 0x90 16 ≡ replicate 16 2
   pub askedFresh : verdicts freshRecord 0x80 16 ≡ replicate 16 2
+  pub unlooked : verdicts (record { fresh = true; tag = 7; words = 1 }) 0x10 16 ≡ replicate 16 0

@@ -10,7 +10,7 @@ records-shown = record { least = refl; most = refl; tag = refl; none = refl; ove
 
 pub marks-shown : MarksShown
 unfolding markOf
-marks-shown = record { none = refl; first = refl; last = refl }
+marks-shown = record { none = refl; first = refl; last = refl; unlooked = refl }
 
 pub keeping-shown : KeepingShown
 keeping-shown = record { first = refl; next = refl; stays = refl; fresh = refl }
@@ -21,4 +21,4 @@ rules-shown = record { fresh = refl; again = refl; next = refl; early = refl; ol
 
 pub all-tags-shown : AllTagsShown
 unfolding verdicts ruleOf repeats expected
-all-tags-shown = record { fresh = refl; held0 = refl; held7 = refl; held15 = refl; asked = refl; askedFresh = refl }
+all-tags-shown = record { fresh = refl; held0 = refl; held7 = refl; held15 = refl; asked = refl; askedFresh = refl; unlooked = refl }
