@@ -77,8 +77,8 @@ pub record Lending : Type 0 where
 abbrev pub with : Asked → List ℕ → Lending
 with asked payload = record { asked = asked; payload = payload }
 
--- a message: begin's four, the commands added, its words when it is closed, the place of the last header and the words of
--- the all-OK answer
+-- a message: begin's four, the commands added, its words when it is closed, the place of the last header and the words
+-- of the all-OK answer
 pub record Message : Type 0 where
   pub kind : ℕ
   pub tag : ℕ

@@ -1,5 +1,5 @@
--- Refusals 21 to 26 by their numbers: what begin, add and close get, with each order of two, each number's two sides, and
--- what is not looked at. `proofs/Laws/Benched.antt` computes them. Assumes nothing.
+-- Refusals 21 to 26 by their numbers: what begin, add and close get, with each order of two, each number's two sides,
+-- and what is not looked at. `proofs/Laws/Benched.antt` computes them. Assumes nothing.
 use Prim.Native.Nat.{ℕ}
 use mathlib.Core.Path.{_≡_}
 use mathlib.Core.Bool.{Bool, true, false}
@@ -86,7 +86,7 @@ adds =
     -- 22: adding after closing, before 23
     ∷ add 8972 (writeA true) (ask 4 0xF 0 0) 1 22
     ∷ add 8972 (writeA true) (ask 4 0xF 0 0) 0 22
-    -- 23: counts of writes, of reads, of NOPs
+    -- 23: counts of writes, of reads, whose data words are not looked at, of NOPs
     ∷ write 4 0xF 0 0 23
     ∷ write 4 0xF 0 1 0
     ∷ write 4 0xF 0xF 4095 26
@@ -97,6 +97,7 @@ adds =
     ∷ read 4 4095 26
     ∷ read 4 4096 23
     ∷ read 4 4097 23
+    ∷ add 8972 (fresh 2) (ask 4 16 16 1) 4097 0
     ∷ nop 0 0
     ∷ nop 2 0
     ∷ nop 3 23
@@ -178,8 +179,9 @@ closings =
     ∷ close 8971 (writeA false) 21
     ∷ close 8971 (writeA true) 21
     ∷ close 8971 (fresh 1) 21
-    -- 21: kind 3, tag 16, before 22; a message or an answer past the limit; a write that ends in its address, a last header
-    -- that leaves no room for the others, a read of one word too many, a NOP of three
+    -- 21: kind 3, tag 16, before 22; a message or an answer past the limit; a write without data, a last header that
+    -- leaves no room for the others, a read of a word too many and one whose answer has no data, a NOP of three, one
+    -- whose answer is shorter; closed and empty
     ∷ close 8972 (fresh 3) 21
     ∷ close 8972 (opened 1 16 false false) 21
     ∷ close 8972 (sofar 1 false 2244 0 1 false) 21

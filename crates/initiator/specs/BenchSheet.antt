@@ -1,34 +1,19 @@
--- The sender's calls, discoveries' answers and outcomes in figures, from bytes. `proofs/Laws/Benched.antt` computes
--- them. Assumes nothing.
+-- The sender's calls and discoveries' answers in figures, from bytes. `proofs/Laws/Benched.antt` computes them, and the
+-- outcomes of Examples. Assumes nothing.
 use Prim.Native.Nat.{ℕ, zero, suc, _+_, _*_}
 use mathlib.Core.Path.{_≡_}
 use mathlib.Core.Bool.{Bool, true, false, _&&_}
 use mathlib.Core.List.{List, [], _∷_}
 use lib.Dec.{eqb}
-use lib.ListN.{getD, replicate}
+use lib.ListN.{replicate}
 use Rattle.word.specs.Words.{bytesOf}
 use Rattle.header.specs.declared.refusal.Refusal.{Refusal}
-use Rattle.header.specs.Header.{kindOf}
 use Rattle.header.specs.Refusal.{refusedAt, refusal}
 use Rattle.message.specs.Request.{All}
-use Rattle.message.specs.Walk.{read}
-use Rattle.answer.specs.declared.Status.{Status}
-use Rattle.answer.specs.declared.Status.the-variants.{Ok, Timeout, Error}
 use Rattle.initiator.specs.declared.sender.Sender.{Sender}
 use Rattle.initiator.specs.declared.sender.Moved.{Moved}
-use Rattle.initiator.specs.declared.outcome.Ending.{Ending}
-use Rattle.initiator.specs.declared.outcome.Ending.the-variants.{Absent, Ended}
-use Rattle.initiator.specs.declared.outcome.Outcome.{Outcome}
-use Rattle.initiator.specs.Outcome.{judgedBy, partIn, cut, dataIn, outcomeOf}
 use Rattle.initiator.specs.Sender.{freshSender, offerOf, sendOf, sendFault, takeOf, startOf}
-
--- a line: what a call gives, and what it must give
-pub record Line (A : Type 0) : Type 0 where
-  pub given : A
-  pub is : A
-
-abbrev pub Right : {A : Type 0} → Line A → Type 0
-Right l = l .given ≡ l .is
+use Rattle.initiator.specs.Examples.{Line, Right, write, writeA, readTwo, twoWrites, outcomes}
 
 -- a sender of this next tag, at which none waits, or one
 abbrev pub idle : ℕ → Sender
@@ -39,20 +24,6 @@ waiting next = record { next = next; waits = true }
 
 abbrev pub moved : Refusal → Sender → Moved
 moved r s = record { refusal = r; sender = s }
-
--- the bench sheet's write (a), with this header; its read of 2 words; and its two writes of tag 0, with this second
--- header
-abbrev pub write : ℕ → List ℕ
-write h = bytesOf (h ∷ 0x00000004 ∷ 0xFEEDC0DE ∷ [])
-
-abbrev pub writeA : List ℕ
-writeA = write 0x80010F10
-
-abbrev pub readTwo : List ℕ
-readTwo = bytesOf (0x80020020 ∷ 0x0000001C ∷ [])
-
-abbrev pub twoWrites : ℕ → List ℕ
-twoWrites h = bytesOf (0x00010F10 ∷ 0x00000000 ∷ 0x11111111 ∷ h ∷ 0x00000020 ∷ 0x22222222 ∷ [])
 
 -- "the fixed discovery", with the figures of [6]
 abbrev pub fixedDiscovery : List ℕ
@@ -196,8 +167,16 @@ starts =
     ∷ started 0x230C 0x11 2
     ∷ started 0x230C 0x12 3
     ∷ started 0x230C 0x13 4
+    ∷ started 0x230C 0x14 5
+    ∷ started 0x230C 0x15 6
+    ∷ started 0x230C 0x16 7
     ∷ started 0x230C 0x17 8
     ∷ started 0x230C 0x18 9
+    ∷ started 0x230C 0x19 10
+    ∷ started 0x230C 0x1A 11
+    ∷ started 0x230C 0x1B 12
+    ∷ started 0x230C 0x1C 13
+    ∷ started 0x230C 0x1D 14
     ∷ started 0x230C 0x1E 15
     ∷ started 0x230C 0x1F 0
     -- word 0 is not looked at
@@ -232,97 +211,6 @@ is38 w = eqb (startOf (advertised 0x230C w) .refusal .number) 38
 unfoldable pub bitsAre38 : ℕ → ℕ → Bool
 bitsAre38 zero w = true
 bitsAre38 (suc n) w = is38 w && is38 (w + 0x10) && is38 (w + 0x13) && bitsAre38 n (2 * w)
-
--- what is told of an answer and of command k: the outcome, the bytes of its part, and its data words
-pub record Told : Type 0 where
-  pub outcome : Outcome
-  pub part : List ℕ
-  pub words : List ℕ
-
-abbrev pub told : List ℕ → List ℕ → ℕ → Told
-told request answer k =
-    record {
-      outcome = outcomeOf request answer k;
-      part = cut (partIn (kindOf (getD request 0 0)) k (judgedBy (read request) answer)) answer;
-      words = dataIn (kindOf (getD request 0 0)) k (judgedBy (read request) answer);
-    }
-
--- so many commands were answered, command k ended so, and these are its words, from this byte to that
-abbrev pub tells : List ℕ → List ℕ → ℕ → ℕ → Ending → ℕ → ℕ → List ℕ → Line Told
-tells request answer k count ending start end words =
-    record {
-      given = told request answer k;
-      is =
-          record {
-            outcome = record { refusal = refusal 0; count = count; ending = ending; start = start; end = end };
-            part = bytesOf words;
-            words = words;
-          };
-    }
-
--- the same of a command with no read data
-abbrev pub ends : List ℕ → List ℕ → ℕ → ℕ → Ending → Line Told
-ends request answer k count ending = tells request answer k count ending 0 0 []
-
--- refused: nothing is told
-abbrev pub silent : List ℕ → List ℕ → ℕ → ℕ → Line Told
-silent request answer n at =
-    record {
-      given = told request answer 0;
-      is =
-          record {
-            outcome = record { refusal = refusedAt n at; count = 0; ending = Absent; start = 0; end = 0 };
-            part = [];
-            words = [];
-          };
-    }
-
--- reads of 1, 2 and 1 words, all answered OK; the second failed; the first timed out; a NOP of two words
-abbrev pub threeReads : List ℕ
-threeReads =
-    bytesOf (0x00010022 ∷ 0x00000000 ∷ 0x00020022 ∷ 0x00000020 ∷ 0x80010022 ∷ 0x00000004 ∷ [])
-
-abbrev pub allRead : List ℕ
-allRead =
-    bytesOf
-    (0x00010032 ∷ 0x11111111 ∷ 0x00020032 ∷ 0x22222222 ∷ 0x33333333 ∷ 0x80010032 ∷ 0x44444444 ∷ [])
-
-abbrev pub secondFailed : List ℕ
-secondFailed = bytesOf (0x00010032 ∷ 0x11111111 ∷ 0x80000232 ∷ [])
-
-abbrev pub nopTwo : List ℕ
-nopTwo = bytesOf (0x80020000 ∷ 0x00000001 ∷ 0x00000002 ∷ [])
-
-unfoldable pub outcomes : List (Line Told)
-outcomes =
-    tells threeReads allRead 0 3 (Ended Ok) 4 8 (0x11111111 ∷ [])
-    ∷ tells threeReads allRead 1 3 (Ended Ok) 12 20 (0x22222222 ∷ 0x33333333 ∷ [])
-    ∷ tells threeReads allRead 2 3 (Ended Ok) 24 28 (0x44444444 ∷ [])
-    -- absent: one past the last, and far past it
-    ∷ ends threeReads allRead 3 3 Absent
-    ∷ ends threeReads allRead 4294967296 3 Absent
-    -- an Error in the middle: what was read before it stands, what comes after it is absent; a Timeout
-    ∷ tells threeReads secondFailed 0 2 (Ended Ok) 4 8 (0x11111111 ∷ [])
-    ∷ ends threeReads secondFailed 1 2 (Ended Error)
-    ∷ ends threeReads secondFailed 2 2 Absent
-    ∷ ends threeReads (bytesOf (0x80000132 ∷ [])) 0 1 (Ended Timeout)
-    ∷ ends threeReads (bytesOf (0x80000132 ∷ [])) 1 1 Absent
-    -- no OK read: a write, two, and a NOP's words; a read of 64 bits, of tag 15
-    ∷ ends writeA (bytesOf (0x80000030 ∷ [])) 0 1 (Ended Ok)
-    ∷ ends (twoWrites 0x80010F10) (bytesOf (0x00000030 ∷ 0x80000230 ∷ [])) 0 2 (Ended Ok)
-    ∷ ends (twoWrites 0x80010F10) (bytesOf (0x00000030 ∷ 0x80000230 ∷ [])) 1 2 (Ended Error)
-    ∷ ends nopTwo (bytesOf (0x80020030 ∷ 0x0000230C ∷ 0x00000013 ∷ [])) 0 1 (Ended Ok)
-    ∷ tells (bytesOf (0x8001006F ∷ 0x00000010 ∷ 0x00000000 ∷ [])) (bytesOf (0x8001007F ∷ 0xF00DFACE ∷ [])) 0 1
-    (Ended Ok) 4 8 (0xF00DFACE ∷ [])
-    -- 31 (its tag clause aside) to 35: no LAST, and no answer; the bench sheet's discovery read; three bytes; another
-    -- tag; a second status 3; cut short
-    ∷ silent (write 0x00010F10) [] 31 3
-    ∷ silent (bytesOf (0x800100A0 ∷ 0x00000010 ∷ [])) (bytesOf (0x800100B0 ∷ 0xF00DFACE ∷ [])) 31 0
-    ∷ silent threeReads (0x31 ∷ 0x00 ∷ 0x00 ∷ []) 32 0
-    ∷ silent threeReads (bytesOf (0x10010031 ∷ 0x11111111 ∷ [])) 33 0
-    ∷ silent threeReads (bytesOf (0x00010032 ∷ 0x11111111 ∷ 0x00000332 ∷ [])) 34 2
-    ∷ silent threeReads (bytesOf (0x00010032 ∷ 0x11111111 ∷ [])) 35 2
-    ∷ []
 
 -- "A sender starts with next tag 0 for a fresh pair", and every line holds
 pub record BenchHolds : Type 0 where

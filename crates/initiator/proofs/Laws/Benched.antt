@@ -1,4 +1,4 @@
--- The sender's lines: computed. Assumes nothing.
+-- The sender's lines and the outcomes: computed. Assumes nothing.
 use mathlib.Core.Path.{refl}
 use Rattle.word.specs.Words.{wordsOf, bytesOf}
 use Rattle.header.specs.Limits.{lengthOk}
@@ -12,7 +12,8 @@ use Rattle.answer.specs.Answer.{statusNo, answerByte, answerFault, seenOf, look
 use Rattle.initiator.specs.Asking.{plainly, askedAs}
 use Rattle.initiator.specs.Outcome.{judgedBy, endingAt, spanOf, partAt, dataAt, toldOf, outcomeOf}
 use Rattle.initiator.specs.Sender.{offering, sending, offerOf, sendOf, sendFault, takeOf, wordOk, nextAfter, startedAt, startOf}
-use Rattle.initiator.specs.BenchSheet.{offers, sends, takes, starts, bitsAre38, outcomes, BenchHolds}
+use Rattle.initiator.specs.Examples.{outcomes}
+use Rattle.initiator.specs.BenchSheet.{offers, sends, takes, starts, bitsAre38, BenchHolds}
 
 pub benched : BenchHolds
 unfolding wordsOf bytesOf lengthOk kindNo byte0From headOf patternOk faultOf addressFrom replies All stepOn commandOf commandsFrom ended read discoveryByte statusNo answerByte answerFault seenOf lookOn answersFrom judge plainly askedAs judgedBy endingAt spanOf partAt dataAt toldOf outcomeOf offering sending offerOf sendOf sendFault takeOf wordOk nextAfter startedAt startOf offers sends takes starts bitsAre38 outcomes
@@ -22,7 +23,7 @@ benched =
       offers = (refl, (refl, (refl, (refl, (refl, (refl, (refl, (refl, (refl, (refl, (refl, (refl, (refl, (refl, (refl, (refl, (refl, (refl, (refl, (refl, (refl, (refl, (refl, (refl, tt))))))))))))))))))))))));
       sends = (refl, (refl, (refl, (refl, (refl, (refl, (refl, (refl, (refl, (refl, (refl, (refl, tt))))))))))));
       takes = (refl, (refl, (refl, (refl, (refl, (refl, (refl, (refl, (refl, (refl, (refl, (refl, (refl, (refl, (refl, (refl, (refl, (refl, (refl, (refl, (refl, tt)))))))))))))))))))));
-      starts = (refl, (refl, (refl, (refl, (refl, (refl, (refl, (refl, (refl, (refl, (refl, (refl, (refl, (refl, (refl, (refl, (refl, (refl, (refl, (refl, (refl, (refl, (refl, (refl, (refl, (refl, (refl, tt)))))))))))))))))))))))))));
+      starts = (refl, (refl, (refl, (refl, (refl, (refl, (refl, (refl, (refl, (refl, (refl, (refl, (refl, (refl, (refl, (refl, (refl, (refl, (refl, (refl, (refl, (refl, (refl, (refl, (refl, (refl, (refl, (refl, (refl, (refl, (refl, (refl, (refl, (refl, (refl, tt)))))))))))))))))))))))))))))))))));
       bits = refl;
       outcomes = (refl, (refl, (refl, (refl, (refl, (refl, (refl, (refl, (refl, (refl, (refl, (refl, (refl, (refl, (refl, (refl, (refl, (refl, (refl, (refl, (refl, tt)))))))))))))))))))));
     }
