@@ -1,6 +1,6 @@
--- The public functions that the ends stand on are determined too: each by its contract, as in Calls.antt. Where a function
--- is lent something that it can change, what that then holds stands beside what is returned, or alone where nothing is
--- returned. Assumes nothing.
+-- The public functions that the ends stand on are determined too: each by its contract, as in Calls.antt. Where a
+-- function is lent something that it can change, what that then holds stands beside what is returned, or alone where
+-- nothing is returned. Assumes nothing.
 use denote.Ref.{now}
 use Rattle.determined.specs.Calls.{Determined, beside}
 use Rattle.word.proofs.from_byte as FromByte

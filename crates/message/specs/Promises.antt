@@ -1,5 +1,5 @@
--- What is promised of requests, written and read, in other words than the definitions of Request and Walk: the proofs are
--- in proofs/Laws/Round.antt, Back.antt and Exactly.antt. Assumes nothing.
+-- What is promised of requests, written and read, in other words than the definitions of Request and Walk: the proofs
+-- are in proofs/Laws/Round.antt, Back.antt and Exactly.antt. Assumes nothing.
 use Prim.Native.Nat.{ℕ, _≤_}
 use mathlib.Core.Path.{_≡_}
 use mathlib.Core.List.{List}

@@ -1,5 +1,5 @@
--- What is promised of words and their bytes, in other words than the definitions of Words and Enables: the proofs are in
--- proofs/Crossing.antt and proofs/Places.antt. Assumes nothing.
+-- What is promised of words and their bytes, in other words than the definitions of Words and Enables: the proofs are
+-- in proofs/Crossing.antt and proofs/Places.antt. Assumes nothing.
 use Prim.Native.Nat.{ℕ, _+_, _*_, _%_, _<_}
 use mathlib.Core.Path.{_≡_}
 use mathlib.Core.Bool.{cond}
