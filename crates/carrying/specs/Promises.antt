@@ -1,5 +1,5 @@
--- What is promised of carrying out, in other words than its definitions: so a wrong definition cannot hide. The proofs
--- are in proofs/Laws/Promises.antt. Assumes nothing.
+-- What is promised of carrying out, in other words than its definitions: a definition that is wrong alone is refused.
+-- The proofs are in proofs/Laws/Promises.antt. Assumes nothing.
 use Prim.Native.Nat.{ℕ, _+_, _/_, _<_, _≤_}
 use mathlib.Core.Path.{_≡_}
 use mathlib.Core.Bool.{true, false}

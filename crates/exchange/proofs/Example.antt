@@ -1,11 +1,17 @@
--- The night of specs/Example.antt: its premises and its end, computed. Assumes nothing.
-use mathlib.Core.Path.{refl}
+-- The night of specs/Example.antt: its premises and its end, computed; and a message of each tag. Assumes nothing.
+use Prim.Native.Nat.{ℕ, zero, suc, _<_}
+use mathlib.Core.Path.{_≡_, refl}
+use mathlib.Core.Bool.{Bool, true, _&&_}
 use mathlib.Core.Logic.{inl, inr}
 use mathlib.Core.List.{[], _∷_}
+use native.Mathlib.Omega.{arith}
+use native.Mathlib.Decide.{ℕ-discrete}
+use native.Mathlib.Nat.{not-suc-le-zero}
 use borrow.Author.Tests.{leb-true}
 use lib.ListN.{replicate}
 use Rattle.word.specs.Words.{wordsOf, bytesOf, put, putWords}
 use Rattle.word.specs.Enables.{byteOf, bitOf, ofBytes, merged}
+use Rattle.word.proofs.Crossing.{bytes-below}
 use Rattle.header.specs.Limits.{limit, limitBytes, lengthOk}
 use Rattle.header.specs.Header.{kindNo, byte0From, headerFrom, headOf}
 use Rattle.message.specs.Faults.{patternOk, faultOf}
@@ -25,11 +31,33 @@ use Rattle.initiator.specs.Outcome.{judgedBy, endingAt, dataAt}
 use Rattle.initiator.specs.Asking.{plainly, askedAs, asksAs}
 use Rattle.initiator.specs.Sender.{offering, sending, offerOf, sendOf, takeOf}
 use Rattle.once.specs.World.{start}
+use Rattle.once.proofs.Checked.{both-true}
 use Rattle.exchange.specs.Outcomes.{each, told}
-use Rattle.exchange.specs.Ends.{ends}
-use Rattle.exchange.specs.Promise.{Begins, ages, morning}
+use Rattle.exchange.specs.Ends.{Loader, ends}
+use Rattle.exchange.specs.Terms.{Offers}
+use Rattle.exchange.specs.Promise.{Begins, ages, morning, nopOf}
 use Rattle.exchange.specs.Example.{controller, loader, output, night, Played}
 use Rattle.exchange.proofs.Checked.{below-so, always-so}
+
+-- A NOP of each tag is let by, computed; so it fits a sender of that next tag.
+abbrev nopsAsked : ℕ → Bool
+nopsAsked zero = true
+nopsAsked (suc n) = asksAs n (read (nopOf n)) && nopsAsked n
+
+nops-computed : nopsAsked 16 ≡ true
+unfolding wordsOf bytesOf kindNo byte0From headerFrom headOf patternOk faultOf stepOn addressFrom commandOf commandsFrom replies ended lengthOk read plainly askedAs asksAs
+nops-computed = refl
+
+nop-asked : (n t : ℕ) → t < n → nopsAsked n ≡ true → asksAs t (read (nopOf t)) ≡ true
+nop-asked zero t h e = absurd (not-suc-le-zero h)
+nop-asked (suc n) t h e = let p = both-true (asksAs n (read (nopOf n))) _ e in go (p .0) (λ l. nop-asked n t l (p .1)) (ℕ-discrete t n)
+  where
+    go : asksAs n (read (nopOf n)) ≡ true → (t < n → asksAs t (read (nopOf t)) ≡ true) → Dec (t ≡ n) → asksAs t (read (nopOf t)) ≡ true
+    go last others (yes q) = rw q last
+    go last others (no q) = others (omega arith)
+
+pub nop-fits : (s : Loader) → s .sender .next < 16 → Offers s (nopOf (s .sender .next))
+nop-fits s h = record { bytes = bytes-below _; asked = nop-asked 16 (s .sender .next) h nops-computed }
 
 begun : Begins controller loader
 unfolding recordOk

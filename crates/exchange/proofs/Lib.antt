@@ -1,6 +1,6 @@
 -- What proves it: Promise has the theorems. Facts: the two ends meet what `once` asks, from the facts about the loader (Sender) and the
 -- controller (Controller, by what its call goes by: Going). Begins and Started: the two starts. Codec: what crosses the
--- channel. Example and Sharp compute, by the tests of Checked.
+-- channel. Counts: how many commands an outcome has. Example and Sharp compute, by the tests of Checked.
 pub mod Promise
 pub mod Facts
 pub mod Sender
@@ -9,6 +9,7 @@ pub mod Going
 pub mod Begins
 pub mod Started
 pub mod Codec
+pub mod Counts
 pub mod Example
 pub mod Sharp
 pub mod Checked

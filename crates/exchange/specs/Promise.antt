@@ -2,29 +2,32 @@
 -- proofs/Promise.antt proves each under its own name. The words used here are defined in Ends (the ends, `ends`), Terms
 -- (messages and what is lent, `terms`), and in the crate `once`: World (events, and what they do), Promise
 -- (`AllowedRun`, `made`, `results`, `Progress`, `Extends`). Assumes nothing.
-use Prim.Native.Nat.{ℕ, suc, _+_, _%_, _≤_}
+use Prim.Native.Nat.{ℕ, suc, _+_, _%_, _<_, _≤_}
 use mathlib.Core.Path.{_≡_}
-use mathlib.Core.Bool.{true}
+use mathlib.Core.Bool.{true, false, cond}
 use mathlib.Core.Logic.{_⊎_}
-use mathlib.Core.Option.{some}
-use mathlib.Core.List.{List, _∷_, _++_}
+use mathlib.Core.Option.{Option, none, some}
+use mathlib.Core.List.{List, [], _∷_, _++_}
 use lib.ListN.{length, getD, getElem?, take}
+use Rattle.word.specs.Words.{bytesOf}
 use Rattle.header.specs.Header.{tagOf, kindOf}
 use Rattle.message.specs.Request.{Command}
 use Rattle.message.specs.Discovery.{discoveryBytes}
-use Rattle.message.specs.Walk.{requestOf}
+use Rattle.message.specs.Walk.{read, requestOf}
 use Rattle.answer.specs.Answer.{Answered}
+use Rattle.memory.specs.Moves.{fails}
 use Rattle.memory.specs.Promises.{carried}
 use Rattle.carrying.specs.Answers.{failed}
 use Rattle.carrying.specs.Promises.{AnsweredThen}
 use Rattle.tags.specs.Record.{isFresh}
 use Rattle.completer.specs.Controller.{Controller}
+use Rattle.initiator.specs.Outcome.{judgedBy, countIn}
 use Rattle.initiator.specs.Sender.{freshSender, startOf}
 use Rattle.once.specs.World.{Event, World, finished}
 use Rattle.once.specs.Promise.{Ages, AllowedRun, after, made, results, Progress, Extends}
-use Rattle.exchange.specs.Outcomes.{resultOf, outcomeOver}
+use Rattle.exchange.specs.Outcomes.{Outcome, resultOf, told, outcomeOver}
 use Rattle.exchange.specs.Ends.{Loader, ends}
-use Rattle.exchange.specs.Terms.{Lendable, terms, Sound}
+use Rattle.exchange.specs.Terms.{Offers, Lendable, terms, Sound}
 
 -- "from a fresh pair"
 pub record FreshPair (c : Controller) (s : Loader) : Type 0 where
@@ -76,6 +79,23 @@ abbrev pub Memory : Type 0
 Memory = (c : Controller) (s : Loader) → Begins c s → (es : List (Event ends)) → Night c s es
     → FirstMessages (c .memory) (morning c s es)
 
+-- the tag that the controller's record holds; none if it is fresh
+abbrev pub tagHeld : Controller → Option ℕ
+tagHeld c = cond (isFresh (c .tags)) none (some (c .tags .tag))
+
+-- The controller's record holds the tag of the last message counted as accepted, and what it held at the start if none
+-- is; those counted so are the first messages, and they made memory. w .taken is their number.
+pub record RecordHolds (c : Controller) (w : World ends) : Type 0 where
+  pub offered : w .taken ≤ length (w .offered)
+  pub memory : w .controller .memory ≡ made terms (c .memory) (take (w .taken) (w .offered))
+  pub first : w .taken ≡ 0 → tagHeld (w .controller) ≡ tagHeld c
+  pub last : (i : ℕ) (message : List ℕ) → suc i ≡ w .taken → getElem? (w .offered) i ≡ some message
+      → tagHeld (w .controller) ≡ some (tagOf (getD message 0 0))
+
+abbrev pub LastAccepted : Type 0
+LastAccepted = (c : Controller) (s : Loader) → Begins c s → (es : List (Event ends)) → Night c s es
+    → RecordHolds c (morning c s es)
+
 -- "Each finished outcome is from that carrying out.": `results` takes `outcomeOver` (Outcomes) of each message over
 -- memory as the ones before it made it.
 pub record OutcomesOf (m : List ℕ) (w : World ends) : Type 0 where
@@ -99,6 +119,34 @@ OutcomeThen =
     ≡ resultOf (kindOf (requestOf message .byte0)) a)
     × AnsweredThen (requestOf message) 0 memory before c a
 
+-- n is the number of the message's commands "up to the last or the first Error", over this memory: so it is not 0.
+pub record UpToError (memory message : List ℕ) (n : ℕ) : Type 0 where
+  pub all :
+      carried (kindOf (requestOf message .byte0)) (length memory) (requestOf message .commands)
+      ≡ requestOf message .commands → n ≡ length (requestOf message .commands)
+  pub error :
+      (before : List Command) (c : Command) (behind : List Command)
+      → requestOf message .commands ≡ before ++ (c ∷ behind)
+      → carried (kindOf (requestOf message .byte0)) (length memory) before ≡ before
+      → fails (kindOf (requestOf message .byte0)) (length memory) c ≡ true → n ≡ suc (length before)
+  pub some : 0 < n
+
+-- outcome i, o, has as many commands: those of message i, over memory as the ones before it made it
+pub record CommandsOf (m : List ℕ) (w : World ends) (i : ℕ) (o : Outcome) : Type 0 where
+  pub message : List ℕ
+  pub is : getElem? (w .offered) i ≡ some message
+  pub many : UpToError (made terms m (take i (w .offered))) message (length o)
+
+-- How many commands a finished outcome has: those of its message up to the first Error, so at least one.
+abbrev pub OutcomeCounts : Type 0
+OutcomeCounts = (c : Controller) (s : Loader) → Begins c s → (es : List (Event ends)) → Night c s es
+    → (i : ℕ) (o : Outcome) → getElem? (morning c s es .outcomes) i ≡ some o
+    → CommandsOf (c .memory) (morning c s es) i o
+
+-- and what the loader is told has as many as `answered` says
+abbrev pub ToldCounts : Type 0
+ToldCounts = (message answer : List ℕ) → length (told message answer) ≡ countIn (judgedBy (read message) answer)
+
 -- "If sending goes on and of any L sends in a row (L at least 1) one arrives and its answer is back before the next
 -- send, all are finished by send N times L.": for each number of messages, and from any moment on (`Progress` of once).
 abbrev pub AllFinished : Type 0
@@ -108,6 +156,19 @@ AllFinished = (c : Controller) (s : Loader) → Begins c s → Progress ends ter
 -- (`Extends`).
 abbrev pub NeverStuck : Type 0
 NeverStuck = (c : Controller) (s : Loader) → Begins c s → Extends ends terms 1 ages c s
+
+-- For each sender of next tag 0 to 15 some message fits: a NOP of count 0 of that tag, LAST. When none waits, offering
+-- it is accepted.
+abbrev pub nopOf : ℕ → List ℕ
+nopOf tag = bytesOf ((0x80000000 + tag) ∷ [])
+
+pub record Fitting (s : Loader) (message : List ℕ) : Type 0 where
+  pub fits : Offers s message
+  pub accepted : s .sender .waits ≡ false
+      → ends .offer s message ≡ record { sender = record { next = s .sender .next; waits = true }; message = message }
+
+abbrev pub SomeFits : Type 0
+SomeFits = (s : Loader) → s .sender .next < 16 → Fitting s (nopOf (s .sender .next))
 
 -- "each tagged as offering asks" is what the sender's record says: message i, counted from 0, has the tag that is i
 -- after the first next tag, and the record's next tag is that of the message to be finished next.

@@ -105,7 +105,7 @@ toldOf kind k p =
       end = partIn kind k p .end;
     }
 
--- the part that comes back for command k: its start and its length, and that its bytes are that command's data words
+-- the bytes of the part that comes back for command k: those at its place in the answer, and that command's data words
 pub record ReadData (request answer : List ℕ) (k : ℕ) (part : List ℕ) : Type 0 where
   pub place : part ≡ cut (partIn (kindOf (getD request 0 0)) k (judgedBy (read request) answer)) answer
   pub words : part ≡ bytesOf (dataIn (kindOf (getD request 0 0)) k (judgedBy (read request) answer))

@@ -1,5 +1,5 @@
--- What is promised of memory, in other words than its definitions: so a wrong definition cannot hide. The proofs are in
--- proofs/Laws/LastWrite.antt and proofs/Laws/Promises.antt. Assumes nothing.
+-- What is promised of memory, in other words than its definitions: a definition that is wrong alone is refused. The
+-- proofs are in proofs/Laws/LastWrite.antt and proofs/Laws/Promises.antt. Assumes nothing.
 use Prim.Native.Nat.{ℕ, suc, _+_, _-_, _/_, _<_}
 use mathlib.Core.Path.{_≡_}
 use mathlib.Core.Bool.{Bool, true, false, cond, _&&_, _||_}
@@ -11,7 +11,7 @@ use Rattle.word.specs.Enables.{byteOf, bitOf}
 use Rattle.header.specs.declared.Kind.{Kind}
 use Rattle.header.specs.declared.Kind.the-variants.{Write}
 use Rattle.header.specs.Header.{kindOf, firstField, lastField}
-use Rattle.message.specs.Request.{Command, Request}
+use Rattle.message.specs.Request.{Command, Request, Fits}
 use Rattle.memory.specs.Moves.{fails, memoryAfter}
 
 -- the commands that are carried out, each OK: those before the first that fails
@@ -36,14 +36,19 @@ anyEnables i k (c ∷ cs) = enables i k c || anyEnables i k cs
 abbrev pub byteAt : List ℕ → ℕ → ℕ → ℕ
 byteAt memory i k = byteOf k (getD memory i 0)
 
--- "each byte of memory is that of the last OK write that enables it, else the old one"
-pub record LastWrite (r : Request) (memory : List ℕ) : Type 0 where
+-- each byte of memory is that of the last OK write that enables it, else the old one: its two halves for one request
+pub record ByLastWrite (r : Request) (memory : List ℕ) : Type 0 where
   pub last : (before : List Command) (c : Command) (after : List Command) (i k : ℕ) → k < 4
       → carried Write (length memory) (r .commands) ≡ before ++ (c ∷ after) → enables i k c ≡ true
       → anyEnables i k after ≡ false
       → byteAt (memoryAfter r memory) i k ≡ byteOf k (getD (c .payload) (i - c .address / 4) 0)
   pub old : (i k : ℕ) → k < 4 → anyEnables i k (carried Write (length memory) (r .commands)) ≡ false
       → byteAt (memoryAfter r memory) i k ≡ byteAt memory i k
+
+-- "each byte of memory is that of the last OK write that enables it, else the old one": after a fitting message of kind
+-- Write. `Quiet` says it of every other kind, where no command is a write.
+abbrev pub LastWrite : Type 0
+LastWrite = (r : Request) (memory : List ℕ) → Fits r → kindOf (r .byte0) ≡ Write → ByLastWrite r memory
 
 -- a message that is no write changes no memory
 abbrev pub Quiet : Request → List ℕ → Type 0

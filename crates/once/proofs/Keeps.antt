@@ -1,6 +1,6 @@
 -- Under the laws, each allowed event keeps an invariant. Cited by Promise.antt, which draws the promise from it.
 -- Assumes nothing.
-use Prim.Native.Nat.{ℕ, suc, _+_, _≤_, _<_}
+use Prim.Native.Nat.{ℕ, zero, suc, _+_, _≤_, _<_}
 use mathlib.Core.Path.{_≡_, refl, sym, _∙_, ap, subst}
 use mathlib.Core.Bool.{true, false}
 use mathlib.Core.Logic.{⊎-elim}
@@ -27,6 +27,14 @@ pub results-more : {E : Ends} (T : Terms E) (m : T .Memory) (ds : List (E .Messa
     results T m (ds ++ d ∷ []) ≡ results T m ds ++ T .outcome (made T m ds) d ∷ []
 results-more T m [] d = refl
 results-more T m (e ∷ ds) d = ap (λ l. T .outcome m e ∷ l) (results-more T (T .carry m e) ds d)
+
+-- outcome i of the first f messages is that of message i, over memory as the ones before it made it
+pub results-at : {E : Ends} (T : Terms E) (m : T .Memory) (ds : List (E .Message)) (f i : ℕ) (o : E .Outcome) → getElem? (results T m (take f ds)) i ≡ some o
+    → (d : E .Message) × (getElem? ds i ≡ some d) × (o ≡ T .outcome (made T m (take i ds)) d)
+results-at T m ds zero i o e = let z : _≡_ {A = ℕ} 0 1 = cc in absurd (omega arith)
+results-at T m [] (suc f) i o e = let z : _≡_ {A = ℕ} 0 1 = cc in absurd (omega arith)
+results-at T m (d ∷ ds) (suc f) zero o e = (d, refl, cc)
+results-at T m (d ∷ ds) (suc f) (suc i) o e = results-at T (T .carry m d) ds f i o e
 
 module _ {E : Ends} {T : Terms E} {W : ℕ} {A : Ages} {c₀ : E .Controller} {s₀ : E .Sender} (L : Laws E T W A c₀ s₀) where
   open Ends E using (Message, Datagram, Outcome, Lent, Controller, Sender)

@@ -29,12 +29,16 @@ module _ {E : Ends} {T : Terms E} {S : Sight E T} (F : Tagged E T S) (c : E .Con
   pub tagged-extends : Extends E T 1 usual c s
   tagged-extends = extends (tagged-laws F c s begun) (omega arith) (omega arith) (omega arith)
 
-  says : (w : World E) → Inv (tagged-laws F c s begun) w → Says E T S s w
+  says : (w : World E) → Inv (tagged-laws F c s begun) w → Says E T S c s w
   says w v =
       record {
+        plain = λ i d e. has .row i d e .0;
         tags = λ i d e. has .row i d e .1;
         next = has .next ∙ ap (λ n. (S .next s + n) % 16) (sym (v .f-is));
         last = λ i d e h. ap tagIn (took .last i d (e ∙ sym many) (among (w .taken) (w .offered) i (omega arith) ∙ h) .stored);
+        kept = λ e. took .kept (many ∙ e);
+        within = v .below;
+        memory = took .memory;
         anew = λ s′ n e. record { sound = took .sound; nothing = n; next = e };
         again = λ e. record { sound = took .sound; nothing = rest e (has .state); next = has .next ∙ same e ∙ sym (took .next) };
       }
@@ -57,5 +61,5 @@ module _ {E : Ends} {T : Terms E} {S : Sight E T} (F : Tagged E T S) (c : E .Con
       same e = ap (λ n. (S .next s + n) % 16) (omega (arith, has .within, v .below, v .f-is, many))
 
   -- What the two records say at any moment; and that the controller with a new sender, and in the end the two, are again a start.
-  pub tagged-says : (es : List (Event E)) → AllowedRun E T 1 usual c s es → Says E T S s (after E 1 c s es)
+  pub tagged-says : (es : List (Event E)) → AllowedRun E T 1 usual c s es → Says E T S c s (after E 1 c s es)
   tagged-says es a = says (after E 1 c s es) (inv-after (tagged-laws F c s begun) es a)

@@ -73,13 +73,15 @@ module _ {E : Ends} {T : Terms E} {S : Sight E T} (F : Tagged E T S) (c₀ : E .
     pub last : S .Last c d
     pub says : S .Answer d (outcomeAt E T m₀ ds i d) answer
 
-  -- The controller has accepted ds: memory is theirs, the next tag follows them, and the last one's answer is stored.
+  -- The controller has accepted ds: memory is theirs, the next tag follows them, and the last one's answer is stored, or
+  -- what was stored at the start if there is none.
   pub record Took (ds : List Message) (c : Controller) : Type 0 where
     pub sound : S .Sound c
     pub memory : T .memory c ≡ made T m₀ ds
     pub next : nextTag (tagIn (S .stored c)) ≡ (S .next s₀ + length ds) % 16
     pub row : Row ds
     pub last : (i : ℕ) (d : Message) → suc i ≡ length ds → getElem? ds i ≡ some d → Stored ds i d c
+    pub kept : length ds ≡ 0 → S .stored c ≡ S .stored c₀
 
   -- a controller that is as it was has accepted what it had
   took-kept : {ds : List Message} {c c′ : Controller} → Took ds c → Kept E T S c c′ → Took ds c′
@@ -90,6 +92,7 @@ module _ {E : Ends} {T : Terms E} {S : Sight E T} (F : Tagged E T S) (c₀ : E .
         next = rw (q .stored) (k .next);
         row = k .row;
         last = λ i d e h. let l = k .last i d e h in record { answer = l .answer; stored = q .stored ∙ l .stored; last = q .last d (l .last); says = l .says };
+        kept = λ e. q .stored ∙ k .kept e;
       }
 
   -- a stored tag is at most 15
@@ -125,6 +128,7 @@ module _ {E : Ends} {T : Terms E} {S : Sight E T} (F : Tagged E T S) (c₀ : E .
             next = rw (q .stored) (omega (arith, length-append ds (d ∷ [])));
             row = row-more ds d (k .row) n;
             last = last;
+            kept = λ e. absurd (omega (arith, length-append ds (d ∷ [])));
           }
 
   -- the last one accepted is a repeat
@@ -268,7 +272,7 @@ module _ {E : Ends} {T : Terms E} {S : Sight E T} (F : Tagged E T S) (c₀ : E .
         Strange = S .Strange;
         Took = Took;
         Has = Has;
-        took-none = record { sound = begun .sound; memory = refl; next = sym (begun .next) ∙ sym start-next; row = row-none; last = λ i d e h. absurd (omega arith) };
+        took-none = record { sound = begun .sound; memory = refl; next = sym (begun .next) ∙ sym start-next; row = row-none; last = λ i d e h. absurd (omega arith); kept = λ e. refl };
         has-none = record { within = omega arith; next = sym start-next; row = row-none; state = rests refl (begun .nothing) };
         carried = λ k. k .memory;
         next = took-next;

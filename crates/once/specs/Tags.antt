@@ -7,9 +7,9 @@ use mathlib.Core.Bool.{cond}
 use mathlib.Core.Option.{Option, none, some}
 use mathlib.Core.List.{List, [], _∷_}
 use lib.Dec.{eqb}
-use lib.ListN.{length, getElem?}
+use lib.ListN.{length, take, getElem?}
 use Rattle.once.specs.World.{Ends, World, finished}
-use Rattle.once.specs.Promise.{Terms}
+use Rattle.once.specs.Promise.{Terms, made}
 
 -- "Fresh takes any tag as new. Otherwise the stored tag is a repeat .. The next tag, modulo 16, is new .. Any other is
 -- out of step."
@@ -146,15 +146,21 @@ module _ (E : Ends) (T : Terms E) where
       pub strange : {s : Sender} {d : Message} {a : Datagram} → Waits s d → S .Strange a → Turned s (E .take s a)
       pub unasked : {s : Sender} (a : Datagram) → S .waiting s ≡ none → Turned s (E .take s a)
 
-    -- What the two records say at any moment of a run that started with the sender s.
-    pub record Says (s : Sender) (w : World E) : Type 0 where
-      -- message i has the tag that is i after the first next tag
+    -- What the two records say at any moment of a run that started with the controller c and the sender s.
+    pub record Says (c : Controller) (s : Sender) (w : World E) : Type 0 where
+      -- each message is plain, and message i has the tag that is i after the first next tag
+      pub plain : (i : ℕ) (d : Message) → getElem? (w .offered) i ≡ some d → S .Plain d
       pub tags : (i : ℕ) (d : Message) → getElem? (w .offered) i ≡ some d → S .tag d ≡ (S .next s + i) % 16
       -- "tagged as offering asks": the sender's record says the tag of the message to be finished next
       pub next : S .next (w .sender) ≡ (S .next s + finished E w) % 16
       -- "the last accepted": the controller stores the tag of the last of those that the world counts as taken
       pub last : (i : ℕ) (d : Message) → suc i ≡ w .taken → getElem? (w .offered) i ≡ some d
           → tagIn (S .stored (w .controller)) ≡ some (S .tag d)
+      -- where none is counted so, it stores what it did at the start
+      pub kept : w .taken ≡ 0 → S .stored (w .controller) ≡ S .stored c
+      -- those that are counted so have been offered, and memory is what they make of it, each carried out once in order
+      pub within : w .taken ≤ length (w .offered)
+      pub memory : T .memory (w .controller) ≡ made T (T .memory c) (take (w .taken) (w .offered))
       -- a sender made anew from what the controller stores is a start with it, whatever waited
       pub anew : (s′ : Sender) → S .waiting s′ ≡ none → S .next s′ ≡ nextTag (tagIn (S .stored (w .controller)))
           → Start (w .controller) s′

@@ -10,6 +10,7 @@ use lib.ListN.{length, getD, set}
 use lib.Seq.{sets-eq}
 use native.Mathlib.Numerals.{add-one}
 use Rattle.word.specs.Words.{wordOf, fourOf, wordsOf, bytesOf, Below, Bytes, Words, put, putWords}
+use Rattle.word.specs.Promises.{WordsBack, BytesBack}
 
 -- a number by its digits, which `omega` joins where they are plain
 joined : (a b c d m n x : ℕ) → m ≡ b * 256 + a → n ≡ c * 65536 + m → x ≡ d * 16777216 + n → wordOf a b c d ≡ x
@@ -29,7 +30,7 @@ unfolding bytesOf wordsOf Below
 words-bytes [] r h = refl
 words-bytes (w ∷ ws) r h = rw (word-four w (h .0), words-bytes ws r (h .1))
 
-pub words-back : (ws : List ℕ) → Words ws → wordsOf (bytesOf ws) ≡ ws
+pub words-back : WordsBack
 unfolding wordsOf
 words-back ws h = ap wordsOf (sym (append-nil (bytesOf ws))) ∙ words-bytes ws [] h ∙ append-nil ws
 
@@ -46,7 +47,7 @@ byte2 a b c d h i j = omega arith
 byte3 : (a b c d : ℕ) → a < 256 → b < 256 → c < 256 → d < 256 → wordOf a b c d / 16777216 % 256 ≡ d
 byte3 a b c d h i j k = omega arith
 
-pub bytes-back : (l : List ℕ) → Bytes l → length l % 4 ≡ 0 → bytesOf (wordsOf l) ≡ l
+pub bytes-back : BytesBack
 unfolding bytesOf wordsOf Below
 bytes-back [] h e = refl
 bytes-back (a ∷ []) h e = absurd (omega arith)

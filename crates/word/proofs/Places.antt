@@ -9,6 +9,7 @@ use lib.Dec.{eqb}
 use lib.ListN.{length, getD}
 use Rattle.word.specs.Words.{bytesOf}
 use Rattle.word.specs.Enables.{byteOf, bitOf, ofBytes, merged}
+use Rattle.word.specs.Promises.{BytePlace, MergeByte}
 use Rattle.word.proofs.Crossing.{word-four}
 
 -- a byte is below 256
@@ -31,8 +32,7 @@ pub chosen-lt : (t : Bool) (x y : ℕ) → x < 256 → y < 256 → cond t x y < 
 chosen-lt true x y p q = p
 chosen-lt false x y p q = q
 
--- "A write changes exactly the enabled bytes": byte k of a merge
-pub merge-byte : (k old new e : ℕ) → k < 4 → byteOf k (merged old new e) ≡ cond (bitOf k e) (byteOf k new) (byteOf k old)
+pub merge-byte : MergeByte
 unfolding merged
 merge-byte k old new e h =
     byte-of 4 k (λ i. cond (bitOf i e) (byteOf i new) (byteOf i old)) h
@@ -46,8 +46,7 @@ merge-lt old new e =
     λ i. chosen-lt (bitOf i e) (byteOf i new) (byteOf i old) (byte-lt i new) (byte-lt i old) in
     omega (arith, b 0, b 1, b 2, b 3)
 
--- byte k of word i of a run of words
-pub byte-place : (ws : List ℕ) (i k : ℕ) → k < 4 → i < length ws → getD (bytesOf ws) (4 * i + k) 0 ≡ byteOf k (getD ws i 0)
+pub byte-place : BytePlace
 unfolding bytesOf byteOf
 byte-place [] i k h l = absurd (not-suc-le-zero l)
 byte-place (w ∷ ws) zero zero h l = refl

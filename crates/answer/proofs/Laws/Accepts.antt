@@ -22,6 +22,7 @@ use Rattle.message.proofs.Laws.Faults.{no-mean, past, before-is}
 use Rattle.message.proofs.Laws.Round.{length-right, ends-at}
 use Rattle.answer.specs.declared.Look.the-variants.{Item, Refused as RefusedLook}
 use Rattle.answer.specs.Answer.{Answered, codeOf, statusNo, answerByte, stops, answerFault, seenOf, lookOn, lookTurn, answersFrom, judge, answeredWords, answerWords, encodeAnswer, FitsAnswered, FitsAnswers, FitsAnswer}
+use Rattle.answer.specs.Promises.{JudgeEncoded, EncodeJudged}
 use Rattle.answer.specs.Exactly.{AcceptsExactly}
 use Rattle.answer.proofs.Laws.Heads.{status-code, code-status, code-lt, answer-lt, wanted-le, wanted-reply, Fair, fair, fair-fault}
 
@@ -207,8 +208,7 @@ module _ (byte0 : ℕ) where
       go ih false z x = no-mean x
       go ih true z x = by (fair byte0 (c .count) (none cs) h (length rest) (eqb-true _ _ z)) ih (lastOf h) refl x
 
--- "accepted": a fitting list's encoding is judged to be that list
-pub judge-encoded : (r : Request) (items : List Answered) → Fits r → FitsAnswer r items → judge r (encodeAnswer r items) ≡ Means items
+pub judge-encoded : JudgeEncoded
 unfolding judge encodeAnswer
 judge-encoded r items f g =
     let b = r .byte0 in
@@ -223,8 +223,7 @@ judge-encoded r items f g =
     )
     (answers-back b 0 (r .commands) items all g)
 
--- and what is accepted is a fitting list's encoding
-pub encode-judged : (r : Request) (dg : List ℕ) (items : List Answered) → Bytes dg → judge r dg ≡ Means items → FitsAnswer r items × (dg ≡ encodeAnswer r items)
+pub encode-judged : EncodeJudged
 unfolding judge encodeAnswer
 encode-judged r dg items hb m =
     let p = past (lengthOk (length dg)) _ _ m in

@@ -21,6 +21,7 @@ use Rattle.message.proofs.Laws.Faults.{no-mean, same-refusal, before-wrong}
 use Rattle.message.proofs.Laws.Round.{none-before}
 use Rattle.answer.specs.declared.Look.the-variants.{Item, Refused as RefusedLook}
 use Rattle.answer.specs.Answer.{Answered, statusNo, answerByte, wanted, stops, answerFault, seenOf, lookOn, lookTurn, answersFrom, judge, answeredWords}
+use Rattle.answer.specs.Promises.{JudgeRange}
 use Rattle.answer.specs.Exactly.{openAnswers, AllOk, answerFaultIn, AnswerFaultAfter, RefusesExactly}
 use Rattle.answer.proofs.Laws.Heads.{stops-clear, Fair, fair}
 use Rattle.answer.proofs.Laws.Accepts.{answered-back, itemOf, item-long, item-fits, item-is, other-byte}
@@ -155,15 +156,6 @@ module _ (r : Request) (dg : List ℕ) (fits : Fits r) (hb : Bytes dg) where
       go true l false y x = other l (eqb-false _ _ y) (same-refusal x)
       go true l true y x = fault l (eqb-true _ _ y) (after-judge (r .byte0) 0 (r .commands) (wordsOf dg) q (fits .asked .some) (words-below dg hb) x)
 
-  -- no other refusal is given
-  pub judge-range : (q : Refusal) → judge r dg ≡ Refused q → (32 ≤ q .number) × (q .number ≤ 35)
-  judge-range q m = go (why q m)
-    where
-      go : Why r dg q → (32 ≤ q .number) × (q .number ≤ 35)
-      go (long l e) = let n = number-is e in (omega arith, omega arith)
-      go (other l y e) = let n = number-is e in (omega arith, omega arith)
-      go (fault l y f) = (omega (arith, f .least), omega (arith, f .most))
-
   long-only : (at : ℕ) → judge r dg ≡ Refused (refusedAt 32 at) → (lengthOk (length dg) ≡ false) × (at ≡ 0)
   long-only at m = go (why (refusedAt 32 at) m)
     where
@@ -207,3 +199,11 @@ module _ (r : Request) (dg : List ℕ) (fits : Fits r) (hb : Bytes dg) where
         other = λ at. (other-only at, λ f. rw (f .2) (other-byte r dg (f .0) (f .1)));
         faults = λ n at h k. (faults-only n at h, faults-given n at h);
       }
+
+pub judge-range : JudgeRange
+judge-range r dg fits hb q m = go (why r dg fits hb q m)
+  where
+    go : Why r dg q → (32 ≤ q .number) × (q .number ≤ 35)
+    go (long l e) = let n = number-is e in (omega arith, omega arith)
+    go (other l y e) = let n = number-is e in (omega arith, omega arith)
+    go (fault l y f) = (omega (arith, f .least), omega (arith, f .most))

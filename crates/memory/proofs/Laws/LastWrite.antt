@@ -173,7 +173,7 @@ module _ (byte0 : ℕ) (write : kindOf byte0 ≡ Write) (i k : ℕ) (four : k < 
           let t = ih m' before (rw kept rest) in
           ap (λ (l : List ℕ). byteAt l i k) (after-append m (movesOf Write d) (moves Write (length m) cs)) ∙ (rw kept at t)
 
-pub last-write : (r : Request) (memory : List ℕ) → Fits r → kindOf (r .byte0) ≡ Write → LastWrite r memory
+pub last-write : LastWrite
 unfolding memoryAfter
 last-write r memory f w =
     record {

@@ -21,6 +21,7 @@ use Rattle.message.specs.declared.walk.Step.the-variants.{Read, Refused 
 use Rattle.message.specs.Faults.{asks}
 use Rattle.message.specs.Walk.{stepOn, commandOf, turn, commandsFrom, ended, read, requestOf}
 use Rattle.message.specs.Request.{Command, Request, Reading, Refused, Means, before, replies, commandWords, none, requestWords, written, FitsCommand, All, Fits}
+use Rattle.message.specs.Promises.{WrittenRead}
 use Rattle.message.proofs.Laws.Faults.{SoundBefore, sound, faultBefore, no-mean, past, before-is}
 use Rattle.message.proofs.Laws.Addresses.{address-is, address-top}
 
@@ -114,8 +115,7 @@ ended-is byte0 (Means cs) r e =
     let q : record { byte0 = byte0; commands = cs } ≡ r = cc in
     (ap (λ (x : Request). x .byte0) (sym q), ap (λ (x : Request). Means (x .commands)) q, rw (← ap (λ (x : Request). x .commands) q) (leb-true _ _ (p .0)))
 
--- "a datagram that reads as a meaning is that meaning's bytes, and the meaning fits"
-pub written-read : (dg : List ℕ) (r : Request) → Bytes dg → read dg ≡ Means r → Fits r × (dg ≡ written r)
+pub written-read : WrittenRead
 unfolding read written
 written-read dg r h m =
     let p = past (lengthOk (length dg)) _ _ m in

@@ -24,6 +24,7 @@ use Rattle.message.specs.declared.walk.Step.the-variants.{Read, Refused 
 use Rattle.message.specs.Faults.{asks, countOk, enablesOk, faultOf}
 use Rattle.message.specs.Walk.{stepOn, commandOf, turn, commandsFrom, ended, read}
 use Rattle.message.specs.Request.{Command, Request, Reading, Refused, Means, before, replies, commandWords, written, FitsCommand, All}
+use Rattle.message.specs.Promises.{RefusalRange}
 use Rattle.message.specs.Exactly.{openWords, faultIn, FaultAfter, TooLong, Exactly}
 use Rattle.message.proofs.Laws.Faults.{SoundBefore, sound, faultBefore, step-refused, no-mean, same-refusal, before-wrong}
 use Rattle.message.proofs.Laws.Round.{command-long, one-back, read-asked, read-written}
@@ -206,11 +207,10 @@ module _ (dg : List ℕ) (hb : Bytes dg) where
         fine = λ r. (written-read dg r hb, λ f. rw (f .1) (read-written r (f .0)));
       }
 
-  -- "No refusal is 0"
-  pub refusal-range : (r : Refusal) → read dg ≡ Refused r → (2 ≤ r .number) × (r .number ≤ 10)
-  refusal-range r m = go (why dg r hb m)
-    where
-      go : Why dg r → (2 ≤ r .number) × (r .number ≤ 10)
-      go (long l e) = let n = number-is e in (omega arith, omega arith)
-      go (walk l f) = (omega (arith, f .least), omega (arith, f .most))
-      go (over l cs w o e) = let n = number-is e in (omega arith, omega arith)
+pub refusal-range : RefusalRange
+refusal-range dg hb r m = go (why dg r hb m)
+  where
+    go : Why dg r → (2 ≤ r .number) × (r .number ≤ 10)
+    go (long l e) = let n = number-is e in (omega arith, omega arith)
+    go (walk l f) = (omega (arith, f .least), omega (arith, f .most))
+    go (over l cs w o e) = let n = number-is e in (omega arith, omega arith)

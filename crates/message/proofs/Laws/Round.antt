@@ -19,6 +19,7 @@ use Rattle.message.specs.Faults.{asks}
 use Rattle.message.specs.Walk.{stepOn, commandOf, commandsFrom, ended, read}
 use Rattle.message.specs.Request.{Command, Request, Means, before, commandWords, none, requestWords, written, FitsCommand, All, FitsAsked, Fits}
 use Rattle.message.specs.Address.{addressFrom, addressIn}
+use Rattle.message.specs.Promises.{ReadWritten}
 use Rattle.message.proofs.Laws.Faults.{Sound, faultless, step-read, skipped}
 use Rattle.message.proofs.Laws.Addresses.{address-long, address-back, address-words}
 
@@ -153,7 +154,6 @@ read-asked r f =
       all-back (r .byte0) (f .byte) (f .asking) 0 (r .commands) (f .some) (f .all),
     )
 
--- "a fitting request's bytes read as itself"
-pub read-written : (r : Request) → Fits r → read (written r) ≡ Means r
+pub read-written : ReadWritten
 unfolding ended
 read-written r f = rw (read-asked r (f .asked), le-leb _ _ (f .answer))

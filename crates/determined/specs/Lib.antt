@@ -1,0 +1,4 @@
+-- What a reader has to believe, and nothing else: definitions only. Calls: what "determined" means, and the calls of
+-- both ends. Ground: the public functions that these stand on.
+pub mod Calls
+pub mod Ground
