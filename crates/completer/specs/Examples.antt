@@ -26,7 +26,7 @@ abbrev pub afterFeed : List ℕ → ℕ → List ℕ → Line
 afterFeed datagram number words = line freshRecord (writeFeed ∷ datagram ∷ []) number words (memoryWith 0 0xFEEDC0DE)
     (holding 0 1)
 
--- a NOP of two words, as it stands first and as it stands last
+-- a NOP of two words with this header, and what follows it
 abbrev pub nop : ℕ → List ℕ → List ℕ
 nop header rest = header ∷ 0x11111111 ∷ 0x22222222 ∷ rest
 
@@ -77,15 +77,17 @@ carriedLines =
     ∷ line freshRecord ((0x80010F55 ∷ 0x00000004 ∷ 0x00000000 ∷ 0x11111111 ∷ []) ∷ []) 0 (0x80000075 ∷ [])
     (memoryWith 0 0x11111111)
     (holding 5 1)
-    -- the advertisement: none of it; all of it, fresh, and with each stored tag's end
+    -- the advertisement: none of it; all of it, fresh, and with tags 0 and 15 stored
     ∷ quiet (0x80000000 ∷ []) (0x80000030 ∷ []) (holding 0 1)
     ∷ quiet (nop 0x80020080 []) (0x800200B0 ∷ 0x0000230C ∷ 0x00000000 ∷ []) freshRecord
-    ∷ line (holding 0 1) (nop 0x80020080 [] ∷ []) 0 (0x800200B0 ∷ 0x0000230C ∷ 0x00000010 ∷ []) benchMemory (holding 0 1)
+    ∷ line (holding 0 1) (nop 0x80020080 [] ∷ []) 0 (0x800200B0 ∷ 0x0000230C ∷ 0x00000010 ∷ []) benchMemory
+    (holding 0 1)
     ∷ line (holding 15 1) (nop 0x80020080 [] ∷ []) 0 (0x800200B0 ∷ 0x0000230C ∷ 0x0000001F ∷ []) benchMemory
     (holding 15 1)
     -- "the stored tag at entry", of a new message: none, 3, and 3 in both of two NOPs; then the tag stored by the last
     ∷ quiet (nop 0x80020005 []) (0x80020035 ∷ 0x0000230C ∷ 0x00000000 ∷ []) (holding 5 3)
-    ∷ line (holding 3 1) (nop 0x80020004 [] ∷ []) 0 (0x80020034 ∷ 0x0000230C ∷ 0x00000013 ∷ []) benchMemory (holding 4 3)
+    ∷ line (holding 3 1) (nop 0x80020004 [] ∷ []) 0 (0x80020034 ∷ 0x0000230C ∷ 0x00000013 ∷ []) benchMemory
+    (holding 4 3)
     ∷ line (holding 3 1) (nop 0x00020004 (nop 0x80020004 []) ∷ []) 0
     (0x00020034 ∷ 0x0000230C ∷ 0x00000013 ∷ 0x80020034 ∷ 0x0000230C ∷ 0x00000013 ∷ [])
     benchMemory
@@ -98,7 +100,7 @@ carriedLines =
 -- tags, and the order of 1, 2, 10 and 11
 unfoldable pub taggedLines : List Line
 taggedLines =
-    -- a repeat, whatever its body says: a read, another write, a discovery's fault aside; one that 7 or 10 refuses
+    -- a repeat, whatever its body says: a read, another write; and one that 7 or 10 refuses
     afterFeed (0x80010020 ∷ 0x00000010 ∷ []) 0 (0x80000030 ∷ [])
     ∷ afterFeed (0x80010F10 ∷ 0x00000000 ∷ 0x11111111 ∷ []) 0 (0x80000030 ∷ [])
     ∷ afterFeed (0x80000F10 ∷ 0x00000004 ∷ []) 7 []
@@ -122,7 +124,7 @@ taggedLines =
     ∷ line freshRecord ((0x80010F1F ∷ 0x00000004 ∷ 0xFEEDC0DE ∷ []) ∷ []) 0 (0x8000003F ∷ [])
     (memoryWith 0 0xFEEDC0DE)
     (holding 15 1)
-    -- 1 before 2, before 7 and before 11, also of a discovery: the record's tag and length
+    -- 1 before 2, before 7, before 11 and of a discovery, by the record's tag and by its length
     ∷ line (holding 16 1) ([] ∷ []) 1 [] benchMemory (holding 16 1)
     ∷ line (holding 0 0) ((0x80000F10 ∷ 0x00000004 ∷ []) ∷ []) 1 [] benchMemory (holding 0 0)
     ∷ line (holding 16 1) ((0x80010F15 ∷ 0x00000004 ∷ 0x11111111 ∷ []) ∷ []) 1 [] benchMemory (holding 16 1)
@@ -174,8 +176,8 @@ keptLines =
 abbrev pub KeptHolds : Type 0
 KeptHolds = everyKept keptLines ≡ true
 
--- 1 by lengths, both sides of each: memory of 1 to 16,384 words, a stored answer of at least 2,243, an output of at least
--- 8,972 bytes; and 1 before 2
+-- 1 by lengths, both sides of each: memory of 1 to 16,384 words, a stored answer of at least 2,243, an output of at
+-- least 8,972 bytes; and 1 before 2
 pub record LentShown : Type 0 where
   pub noMemory : lentOk 0 8972 ≡ false
   pub least : lentOk 1 8972 ≡ true

@@ -70,8 +70,8 @@ requests =
     ∷ words (0x80000040 ∷ []) 0
     ∷ words (0x80010040 ∷ 0x11111111 ∷ []) 0
     ∷ words (0x8001FFCF ∷ 0x11111111 ∷ []) 0
-    -- "a read carries its address only", whatever its count and byte 1: in 32 and in 64 bits, a word too few, a word too
-    -- many; two reads; a NOP of 2, one of 0 and one of 1
+    -- "a read carries its address only", whatever its count and byte 1: in 32 and in 64 bits, a word too few, a word
+    -- too many; two reads; a NOP of 2, one of 0 and one of 1
     ∷ words (0x80021F20 ∷ 0x0000000C ∷ []) 0
     ∷ words (0x80010020 ∷ []) 3
     ∷ words (0x80010020 ∷ 0x00000010 ∷ 0x00000000 ∷ []) 9
