@@ -83,8 +83,8 @@ static void say_result(CharkhavoSent sent) {
 }
 
 static void say_state(void) {
-    say("; words 0 to 3");
-    for (int k = 0; k < 4; k += 1) {
+    say("; memory");
+    for (int k = 0; k < 8; k += 1) {
         say(" ");
         say_word(memory[k]);
     }
