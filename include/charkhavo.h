@@ -155,8 +155,8 @@ typedef struct CharkhavoSent {
 
 /* Serves one datagram. A new message is carried out upon memory, and its tag and answer are
    stored; a repeat gets the stored answer again; a discovery is carried out, and tag and stored
-   answer stay. Refusals: 1, 2, then at each header 3 (no word there), 4 to 8, 3 (its body), 9;
-   then 10, 11. Output bytes past those sent, and stored words past the new answer, keep what they
+   answer stay. Refusals: 1, 2, then at each header 3 (no word there), 4 to 7, 3 (address words
+   missing), 8, 3 (data missing), 9; then 10, 11. Output bytes past those sent, and stored words past the new answer, keep what they
    held. Lengths of memory, stored answer and payloads are in words, all others in bytes. */
 CharkhavoSent charkhavo_serve(uint32_t *memory, uint64_t memory_length,
                               uint32_t *stored, uint64_t stored_length,

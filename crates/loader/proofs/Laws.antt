@@ -1,2 +1,3 @@
 -- The laws of the crate `loader`: its promises.
 pub mod Build
+pub mod Benched

@@ -2,3 +2,4 @@
 pub mod Build
 pub mod Sending
 pub mod Outcome
+pub mod Examples

@@ -67,14 +67,11 @@ every (p ∷ ps) = right p && every ps
 abbrev pub NightsShown : Type 0
 NightsShown = every nights ≡ true
 
--- "zero words": what a read of the first and of the last word sends
-abbrev pub sentFirst : List ℕ → List ℕ
-sentFirst r = take 8 (afterRecord atFirst (replicate limitBytes 0xEE) r .output)
-
+-- "1,024 zero words": what a read of all of them sends
 abbrev pub ZerosShown : Type 0
 ZerosShown =
-    (sentFirst (reads 0x80010020 0) ≡ bytesOf (0x80010030 ∷ 0 ∷ []))
-    × (sentFirst (reads 0x80010020 4092) ≡ bytesOf (0x80010030 ∷ 0 ∷ []))
+    take 4100 (afterRecord atFirst (replicate limitBytes 0xEE) (reads 0x84000020 0) .output)
+    ≡ bytesOf (0x84000030 ∷ replicate 1024 0)
 
 -- numbers in decimal, and a record's beside a word
 abbrev pub DecimalsShown : Type 0

@@ -1,4 +1,4 @@
--- What a refused call leaves: `refused-add-stays`, `refused-close-stays`, `refused-begin-stops`. Assumes nothing.
+-- What a refused call leaves: `refused-add-stays`, `refused-close-stays`, `refused-begin-stops`; `no-place`. Assumes nothing.
 use Prim.Native.Nat.{ℕ}
 use mathlib.Core.Path.{_≡_, refl, sym, _∙_}
 use mathlib.Core.Bool.{Bool, true, false, cond, _&&_, false≢true}
@@ -10,7 +10,7 @@ use Rattle.building.specs.declared.record.Building.{Building}
 use Rattle.building.specs.declared.build.Built.{Built}
 use Rattle.building.specs.Record.{startOk, reachable}
 use Rattle.building.specs.Build.{gives, longOk, opened, noBuilding, begun, addFault, closeFault, added, addedTo, closed, closedTo}
-use Rattle.building.specs.Promises.{RefusedAddStays, RefusedCloseStays, Stopped, RefusedBeginStops}
+use Rattle.building.specs.Promises.{RefusedAddStays, RefusedCloseStays, Stopped, RefusedBeginStops, NoPlace}
 use Rattle.building.proofs.Laws.Reach.{reached-exactly}
 
 -- a call whose fault is tested: accepted it gives one record and one output, refused what was there
@@ -57,3 +57,17 @@ refused-begin-stops room kind tag wide discovery e = go (longOk room && startOk 
         → Stopped (cond t (gives 0 (opened kind tag wide discovery)) (gives 21 noBuilding) .building)
     go true e = absurd (e refl)
     go false e = refused-stopped
+
+-- either way the index is 0
+placeless : (t : Bool) (m n : ℕ) (a b : Building) → cond t (gives m a) (gives n b) .refusal .at ≡ 0
+placeless true m n a b = refl
+placeless false m n a b = refl
+
+pub no-place : NoPlace
+unfolding begun added closed
+no-place =
+    record {
+      begin = λ room kind tag wide discovery. placeless (longOk room && startOk kind tag) 0 21 _ noBuilding;
+      add = λ out b asked payload. placeless (eqb (addFault (length out) b asked (length payload)) 0) 0 _ _ b;
+      close = λ out b. placeless (eqb (closeFault (length out) b) 0) 0 _ _ b;
+    }

@@ -26,7 +26,7 @@ decimals-shown = (refl, refl, refl, refl, refl, refl, refl)
 
 pub zeros-shown : ZerosShown
 unfolding wordsOf bytesOf put putWords byteOf bitOf ofBytes merged kindNo byte0From headerFrom headOf patternOk faultOf stepOn addressFrom commandOf commandsFrom replies ended lengthOk read answerByte answeredWords answerWords outside fetches storesBehind stores moves afterMoves memoryAfter answerOf answers answerTo wordsTo requestOf repeats expected markOf lentOk heldOk recordOk keptOk ruleOf verdictBy answerBy after lengthOf datagramOf afterRecord atFirst recordOf holds
-zeros-shown = (refl, refl)
+zeros-shown = refl
 
 pub nights-shown : NightsShown
 unfolding wordsOf bytesOf put putWords byteOf bitOf ofBytes merged kindNo byte0From headerFrom headOf patternOk faultOf stepOn addressFrom commandOf commandsFrom replies ended lengthOk read answerByte answeredWords answerWords outside fetches storesBehind stores moves afterMoves memoryAfter answerOf answers answerTo wordsTo requestOf repeats expected markOf lentOk heldOk recordOk keptOk ruleOf verdictBy answerBy after same digitsIn decimal lineOf textOf tagText lengthOf datagramOf afterRecord wholeTurn turnOf atFirst recordAt turns nightText recordOf holds nights right every
