@@ -78,9 +78,9 @@ lookAt byte0 count last ws at = cond (ltb at (length ws))
     (lookOn byte0 count last at (getD ws at 0) (length ws - at - 1)) (RefusedLook (refusedAt 35 at))
 
 -- the refusal of a look that refused
-abbrev pub badOf : Look → Refusal
-badOf (Item s) = refusal 0
-badOf (RefusedLook r) = r
+abbrev pub lookRefusal : Look → Refusal
+lookRefusal (Item s) = refusal 0
+lookRefusal (RefusedLook r) = r
 
 -- what a look comes to: `rest` follows the header, and `go n` is what follows behind n words of it
 abbrev pub lookTurn : Look → List ℕ → (ℕ → Reading (List Answered)) → Reading (List Answered)

@@ -1,6 +1,6 @@
 // Answers: what stands at an answer's header, judged against the command that it answers, 34 and 35.
 //
-// The contracts cite specs/: one short definition for each sentence of document 01. The crate's root goes by
+// The contracts cite specs/, where document 01's sentences have their definitions. The crate's root goes by
 // specs/Answer.antt.
 ghost use mathlib.Core.Path.{_≡_};
 ghost use Prim.Native.Nat.{_<_, _≤_};
@@ -9,7 +9,7 @@ ghost use lib.Dec.{ltb, eqb};
 ghost use Rattle.word.specs.Words.{wordsOf};
 ghost use Rattle.header.specs.Limits.{limit};
 ghost use Rattle.header.specs.Header.{countOf, byte1Of, lastOf, endsOk};
-ghost use Rattle.answer.specs.Answer.{badOf, codeOf, statusNo, answerByte, wanted, stops, answerFault, lookOn, lookAt, headFault};
+ghost use Rattle.answer.specs.Answer.{lookRefusal, codeOf, statusNo, answerByte, wanted, stops, answerFault, lookOn, lookAt, headFault};
 use header::Kind;
 use header::limits;
 use header::refusal::Refusal;
@@ -212,7 +212,7 @@ pub fn head_refusal(byte0: u32, answer: &[u8]) -> Refusal
 
 // The refusal that a look at an answer's header gave.
 pub fn refusal_of(look: Look) -> Refusal
-    ensures { λ r. ⌜ r ≡ badOf look ⌝ }
+    ensures { λ r. ⌜ r ≡ lookRefusal look ⌝ }
 {
     match look {
         Look::Item(_) => Refusal::of(Refusal::NONE),

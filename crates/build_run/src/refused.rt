@@ -112,7 +112,7 @@ fn adds_after_closing() {
 }
 
 // Try i. 21: a short output, a kind, a tag, records that no sequence of calls gives. 22: closing with nothing added,
-// closing twice, adding after closing. 23: counts. 24: enables, and gaps inside them, which two words at a multiple of 8
+// closing twice, adding after closing. 23: counts. 24: enables, and gaps, which two words at a multiple of 8
 // alone may have, judged before 25. 25: addresses of 2^32, and one less. 26: a message and an all-OK answer of the
 // limit, and of one word more.
 pub(crate) fn tried(i: usize) {

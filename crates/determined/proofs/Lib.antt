@@ -1,4 +1,4 @@
--- What proves it: Calls and Ground have the theorems, by the rules of Equal.
+-- What proves it: Public and Ground have the theorems, by the rules of Equal.
 pub mod Equal
-pub mod Calls
+pub mod Public
 pub mod Ground

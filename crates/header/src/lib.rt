@@ -1,7 +1,7 @@
 // The header word: every field read and written, how long a command is, and the next tag. Beside it the limits that
 // every message and every answer keeps, and what a refusal is.
 //
-// The contracts cite specs/: one short definition for each sentence of document 01, in the file named after the module.
+// The contracts cite specs/, where document 01's sentences have their definitions, in the file named after the module.
 ghost use mathlib.Core.Path.{_≡_};
 ghost use Prim.Native.Nat.{_<_, _≤_};
 ghost use Rattle.header.specs.Limits.{tagCount};

@@ -57,8 +57,8 @@ fn add_asked(
     count: usize,
     payload: &[u32],
 ) -> Built
-    ensures { λ r. ⌜ (r ≡ added (now (output .entry)) building (asking address first last count) (now (payload .entry))) ×
-        (now (output .exit)
+    ensures { λ r. ⌜ (r ≡ added (now (output .entry)) building (asking address first last count) (now (payload .entry)))
+        × (now (output .exit)
         ≡ addedTo (now (output .entry)) building (asking address first last count) (now (payload .entry))) ⌝ }
 {
     let asked = Asked {
@@ -70,8 +70,8 @@ fn add_asked(
     build::add(output, building, asked, payload)
 }
 
-// Begins a message in the lent output, of which it changes no byte; 21. The record is then that of the message; refused,
-// it is as it was.
+// Begins a message in the lent output, of which it changes no byte; 21. The record is then the message's; refused, it
+// is as it was.
 #[no_mangle]
 pub extern "C" fn charkhavo_begin(
     output: &[u8],
@@ -102,8 +102,8 @@ pub extern "C" fn charkhavo_add(
     payload: &[u32],
 ) -> Refusal
     ensures { λ r. ⌜ (leaves r (now (building .exit))
-        ≡ added (now (output .entry)) (now (building .entry)) (asking address first last count) (now (payload .entry))) ×
-        (now (output .exit)
+        ≡ added (now (output .entry)) (now (building .entry)) (asking address first last count) (now (payload .entry)))
+        × (now (output .exit)
         ≡ addedTo (now (output .entry)) (now (building .entry)) (asking address first last count)
         (now (payload .entry))) ⌝ }
 {

@@ -10,7 +10,7 @@ use Rattle.word.proofs.Crossing.{length-wordsOf}
 use Rattle.answer.specs.declared.Look.the-variants.{Item}
 use Rattle.header.specs.Header.{kindOf}
 use Rattle.message.specs.Walk.{read}
-use Rattle.answer.specs.Answer.{badOf}
+use Rattle.answer.specs.Answer.{lookRefusal}
 use Rattle.initiator.specs.Outcome.{toldOf}
 use Rattle.initiator.specs.Telling.{refusedWith, lookBeside, answersTo}
 use Rattle.initiator.proofs.Inner.Sides.{Sides, next, sides-starts, sides-bad, sides-found, sides-last, sides-next}
@@ -67,7 +67,7 @@ returns : tie.Need-returns Inv-loop μ-loop
 returns c =
     let t = c .before .before .enum-told .given .1 in
     let l = c .before .before .before .before in
-    c .refused2 .ensures ∙ ap refusedWith (c .before .refusal-of .ensures ∙ ap badOf t) ∙ sides-bad (l .before .loop .inv) _ (sym (l .look-beside .ensures) ∙ t)
+    c .refused2 .ensures ∙ ap refusedWith (c .before .refusal-of .ensures ∙ ap lookRefusal t) ∙ sides-bad (l .before .loop .inv) _ (sym (l .look-beside .ensures) ∙ t)
 
 with-item-requires : tie.Need-with-item-requires Inv-loop μ-loop
 with-item-requires c κs =

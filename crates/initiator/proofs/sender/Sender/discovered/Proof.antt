@@ -10,7 +10,7 @@ use Rattle.message.specs.Discovery.{discoveryByte}
 use Rattle.message.proofs.Laws.Fixed.{discovery-byte}
 use Rattle.answer.specs.declared.Status.the-variants.{Ok, Timeout, Error}
 use Rattle.answer.specs.declared.Look.the-variants.{Item}
-use Rattle.answer.specs.Answer.{lookAt, badOf, headFault}
+use Rattle.answer.specs.Answer.{lookAt, lookRefusal, headFault}
 use Rattle.initiator.specs.Sender.{spoiled, startedAt}
 use Rattle.initiator.proofs.Laws.Starting.{start-head, start-bad, start-found, start-as, start-two, start-word}
 use borrow.Author.Needs.{needs}
@@ -74,7 +74,7 @@ returns-2 c =
     let l = c .before .before .before .before in
     let t = c .before .before .enum-told .given .1 in
     let e = l .before in
-    c .spoilt2 .ensures ∙ ap spoiled (c .before .refusal-of .ensures ∙ ap badOf t) ∙ start-bad _ _ (byte-is (head e)) (passed e) _ (sym (l .look-at .ensures) ∙ t)
+    c .spoilt2 .ensures ∙ ap spoiled (c .before .refusal-of .ensures ∙ ap lookRefusal t) ∙ start-bad _ _ (byte-is (head e)) (passed e) _ (sym (l .look-at .ensures) ∙ t)
 
 enum-told-2 : tie.Need-enum-told-2
 enum-told-2 c = search needs

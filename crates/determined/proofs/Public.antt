@@ -1,7 +1,7 @@
 -- The contracts of both ends' calls are determined: each is an equation, whose other side is of what came in. Assumes
 -- nothing.
 use mathlib.Core.Path.{sym, _∙_}
-use Rattle.determined.specs.Calls.{Controlling, Building, Sending, InC}
+use Rattle.determined.specs.Public.{Controlling, Building, Sending, InC}
 use Rattle.determined.proofs.Equal.{both, one-of, first-of, two-of}
 
 pub controlling : Controlling
