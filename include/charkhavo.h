@@ -23,7 +23,7 @@
  * calls on different buffers may run at the same time.
  *
  * A word is 4 bytes, little-endian in messages. Words of memory, stored answer and payload are
- * the machine's own numbers. */
+ * the machine's own numbers; a request is kept as the bytes that came. */
 #ifndef CHARKHAVO_H
 #define CHARKHAVO_H
 
@@ -38,7 +38,8 @@ extern "C" {
 
 /* the most words of a message or an answer; the least length of the stored answer */
 #define CHARKHAVO_WORDS 2243
-/* the same in bytes: the most of a datagram, the least length of an output */
+/* the same in bytes: the most of a datagram, the least length of the kept request and of an
+   output */
 #define CHARKHAVO_BYTES (4 * CHARKHAVO_WORDS)
 /* the most words of memory; the least is 1 */
 #define CHARKHAVO_MEMORY_WORDS 16384
@@ -64,8 +65,8 @@ extern "C" {
 
 /* Turned away by the controller; of a request 2 to 10. */
 
-/* memory, stored answer or output has a forbidden length, or the record is not fresh and not
-   (tag 0 to 15, length 1 to CHARKHAVO_WORDS) */
+/* memory, stored answer, kept request or output has a forbidden length, or the record is not fresh
+   and not (tag 0 to 15, both lengths 1 to CHARKHAVO_WORDS) */
 #define CHARKHAVO_REFUSED_LENT UINT32_C(1)
 /* 0 bytes, not a multiple of 4, or over CHARKHAVO_BYTES */
 #define CHARKHAVO_REFUSED_LENGTH UINT32_C(2)
@@ -87,6 +88,8 @@ extern "C" {
 #define CHARKHAVO_REFUSED_LONG_ANSWER UINT32_C(10)
 /* out of step (discovery clear) */
 #define CHARKHAVO_REFUSED_OUT_OF_STEP UINT32_C(11)
+/* a repeat whose bytes differ from the kept request */
+#define CHARKHAVO_REFUSED_OTHER_BYTES UINT32_C(12)
 
 /* Building a message; the lowest number first. */
 
@@ -138,13 +141,14 @@ typedef struct CharkhavoRefusal {
 
 /* The controller: libcontroller.a. */
 
-/* What the controller keeps between calls beside memory and stored answer. Fresh: no tag is
-   stored, any is new, and the other two fields are not looked at. A controller starts with
-   {true, 0, 0}. */
+/* What the controller keeps between calls beside memory, stored answer and kept request. Fresh: no
+   tag is stored, any is new, and the other three fields are not looked at. A controller starts with
+   {true, 0, 0, 0}. */
 typedef struct CharkhavoTagRecord {
     bool fresh;
-    uint32_t tag;    /* of the last new message, 0 to 15 */
-    uint64_t words;  /* of the stored answer, 1 to CHARKHAVO_WORDS */
+    uint32_t tag;      /* of the last new message, 0 to 15 */
+    uint64_t words;    /* of the stored answer, 1 to CHARKHAVO_WORDS */
+    uint64_t request;  /* words of the kept request, 1 to CHARKHAVO_WORDS */
 } CharkhavoTagRecord;
 
 /* What serving comes to: the first `sent` bytes of the output are to be sent, 0 with a refusal. */
@@ -153,12 +157,21 @@ typedef struct CharkhavoSent {
     uint64_t sent;
 } CharkhavoSent;
 
-/* Serves one datagram. A new message is carried out upon memory, and its tag and answer are
-   stored; a repeat gets the stored answer again; a discovery is carried out, and tag and stored
-   answer stay. Refusals: 1, 2, then at each header 3 (no word there), 4 to 7, 3 (address words
-   missing), 8, 3 (data missing), 9; then 10, 11. Output bytes past those sent, and stored words past the new answer, keep what they
-   held. Lengths of memory, stored answer and payloads are in words, all others in bytes. */
+/* Serves one datagram. A new message is carried out upon memory, its tag and answer are stored,
+   its bytes are kept; a repeat gets the stored answer again; a discovery is carried out, and tag,
+   stored answer and kept request stay. Refusals: 1, 2, then at each header 3 (no word there), 4 to
+   7, 3 (address words missing), 8, 3 (data missing), 9; then 10, 11, 12. Output bytes past those
+   sent, stored words past the new answer and kept bytes past the new request keep what they held.
+   Lengths of memory, stored answer and payloads are in words, all others in bytes.
+
+   `kept` holds the bytes of the last new message from call to call; a repeat has the same, else 12.
+   It must be another buffer than `output`; both are uint8_t *, so no compiler tells them apart.
+
+   Record, stored answer and kept request belong together: over a reset keep all three or none, with
+   a fresh record. After a reset within the call keep none. A controller that comes up fresh takes
+   any tag as new: nothing sent before may arrive any more, and its loader starts anew too. */
 CharkhavoSent charkhavo_serve(uint32_t *memory, uint64_t memory_length,
+                              uint8_t *kept, uint64_t kept_length,
                               uint32_t *stored, uint64_t stored_length,
                               uint8_t *output, uint64_t output_length,
                               CharkhavoTagRecord *tags,

@@ -1,8 +1,9 @@
 #!/usr/bin/env python3
 """Writes the recorded night of `stdin`: python3 crates/replay/night.py > crates/replay/stdin
 
-Each record is a 4-byte length and as many bytes as the limit. Every refusal 2 to 11, each kind, a repeat, a discovery between, a tag that wraps past
-15, refusals at later headers, a length over the limit, an answer and a message of the limit and a short tail are in it.
+Each record is a 4-byte length and as many bytes as the limit. Every refusal 2 to 12, each kind, a repeat, a discovery
+between, a tag that wraps past 15, refusals at later headers, a length over the limit, an answer and a message of the
+limit, eleven restarts of a loader that counts from nought each time, and a short tail are in it.
 """
 import struct
 import sys
@@ -44,7 +45,9 @@ night = [
     record(write(0, 4, 0xFEEDC0DE)),                                # the same again: a repeat
     record(write(0, 4, 0, discovery=0x80)),                         # a discovery write between
     record([0x80020080, LIMIT, 0]),                                 # the fixed discovery
-    record(write(0, 8, 0x11111111)),                                # a repeat, whatever its body says
+    record(write(0, 8, 0x11111111)),                                # 12: the same tag, another body
+    record(write(0, 4, 0xFEEDC0DE) * 2),                            # 9: words after LAST, before 12
+    record([0x00010F10, 4, 0xFEEDC0DE] + write(0, 8, 1)),           # 12: a longer body
     record(write(2, 4, 0)),                                         # 11: out of step
     record([0x80010F11]),                                           # 3: no address
     record([0x80010F51, 4]),                                        # 3: half an address
@@ -69,7 +72,11 @@ night = [
     record([0x80033C16, 0x10, 1, 2, 3]),                            # a write under enables
 ]
 night += [record(write(tag % 16, 0x20 + 4 * tag, tag)) for tag in range(7, 18)]   # past tag 15
-night += [record(write(1, 0, 0)), record(write(15, 0, 0))]                        # a repeat; 11
+night += [record(write(1, 0x20 + 4 * 17, 17)), record(write(15, 0, 0))]           # a repeat; 11
 night += [record(full(0xFF12, 2, range))]                                         # writes: a message of the limit
+night += [record([0x80010023, 4]), record([0x80011123, 4])]                       # a read; 12: another byte 1
+night += [record(write(tag % 16, 0x40, tag)) for tag in range(4, 17)]             # on to tag 0, the loader's first row
+night += [record(write(0, 0x40, 0xA0 + life)) for life in range(11)]              # 12: eleven restarts from tag 0
+night += [record(write(0, 0x40, 16)), record([0x80010021, 0x40])]                 # that row again: a repeat; it stands
 night += [b'\x04\x00\x00\x00cut']                                                 # a short tail
 sys.stdout.buffer.write(b''.join(night))

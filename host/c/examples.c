@@ -1,8 +1,8 @@
 /* The specification's three worked examples through both libraries, as firmware would run them: a
  * discovery NOP, a read and a write, built, served, and compared with the specification's words;
  * then the same three as a loader sends them, under its own tags, with an answer lost each time.
- * Also what a C caller relies on: how the records are laid out, where a refusal stands, what a
- * refused building call leaves, and NULL for what has length 0.
+ * Also what a C caller relies on: how the records are laid out, that a repeat with another body is
+ * refused, where a refusal stands, what a refused building call leaves, and NULL of length 0.
  *
  * Prints the words sent and answered; exits with 1 if anything differs. */
 #include "charkhavo.h"
@@ -18,10 +18,11 @@
 
 LAYOUT(CharkhavoRefusal, 8);
 PLACE(CharkhavoRefusal, at, 4);
-LAYOUT(CharkhavoTagRecord, 16);
+LAYOUT(CharkhavoTagRecord, 24);
 PLACE(CharkhavoTagRecord, fresh, 0);
 PLACE(CharkhavoTagRecord, tag, 4);
 PLACE(CharkhavoTagRecord, words, 8);
+PLACE(CharkhavoTagRecord, request, 16);
 LAYOUT(CharkhavoSent, 16);
 PLACE(CharkhavoSent, sent, 8);
 LAYOUT(CharkhavoBuilding, 48);
@@ -82,6 +83,7 @@ static void show(const char *who, const uint8_t *bytes, size_t length, const uin
 struct Controller {
     uint32_t memory[8];
     uint32_t stored[CHARKHAVO_WORDS];
+    uint8_t kept[CHARKHAVO_BYTES];
     uint8_t output[CHARKHAVO_BYTES];
     CharkhavoTagRecord tags;
 };
@@ -92,9 +94,13 @@ static void start(struct Controller *end) {
     end->tags.fresh = true;
 }
 
+static CharkhavoSent served(struct Controller *end, const uint8_t *datagram, size_t length) {
+    return charkhavo_serve(end->memory, 8, end->kept, CHARKHAVO_BYTES, end->stored, CHARKHAVO_WORDS,
+                           end->output, CHARKHAVO_BYTES, &end->tags, datagram, length);
+}
+
 static size_t serve(struct Controller *end, const uint8_t *datagram, size_t length) {
-    CharkhavoSent sent = charkhavo_serve(end->memory, 8, end->stored, CHARKHAVO_WORDS, end->output,
-                                         CHARKHAVO_BYTES, &end->tags, datagram, length);
+    CharkhavoSent sent = served(end, datagram, length);
     must(sent.refusal, "serving");
     return sent.sent;
 }
@@ -217,6 +223,34 @@ static void expect_number(CharkhavoRefusal refusal, uint32_t number, const char 
     expect_at(refusal, number, 0, what);
 }
 
+/* Whether two controllers are the same, their records field by field. */
+static bool same_controller(const struct Controller *a, const struct Controller *b) {
+    return memcmp(a->memory, b->memory, sizeof a->memory) == 0 &&
+           memcmp(a->stored, b->stored, sizeof a->stored) == 0 &&
+           memcmp(a->kept, b->kept, sizeof a->kept) == 0 &&
+           memcmp(a->output, b->output, sizeof a->output) == 0 && a->tags.fresh == b->tags.fresh &&
+           a->tags.tag == b->tags.tag && a->tags.words == b->tags.words &&
+           a->tags.request == b->tags.request;
+}
+
+/* A repeat has the bytes of the message that it repeats; with others it is refused, and nothing has
+   changed. */
+static void another_body(struct Controller *end) {
+    static const uint8_t write[12] = {0x13, 0x0F, 1, 0x80, 8, 0, 0, 0, 7, 0, 0, 0};
+    static struct Controller before;
+    uint8_t other[sizeof write];
+    serve(end, write, sizeof write);
+    expect(end->tags.tag == 3 && end->tags.words == 1 && end->tags.request == 3, "the record");
+    expect(memcmp(end->kept, write, sizeof write) == 0, "the kept request");
+    memcpy(other, write, sizeof write);
+    other[11] = 1;
+    before = *end;
+    expect_number(served(end, other, sizeof other).refusal, CHARKHAVO_REFUSED_OTHER_BYTES,
+                  "the same tag with another body");
+    expect(same_controller(end, &before), "all as it was");
+    expect(serve(end, write, sizeof write) == 4, "the message itself again");
+}
+
 /* Two reads of one word, the second of another tag; and an answer to two whose second status is 3. */
 static const uint8_t reads[16] = {0x20, 0, 1, 0, 0, 0, 0, 0, 0x21, 0, 1, 0x80, 4, 0, 0, 0};
 static const uint8_t answer[12] = {0x30, 0, 1, 0, 7, 0, 0, 0, 0x30, 3, 0, 0x80};
@@ -227,8 +261,7 @@ static void later_headers(struct Controller *end) {
     memcpy(good, reads, sizeof reads);
     good[8] = 0x20;
     CharkhavoSender sender = charkhavo_fresh(), waiting = {0, true};
-    CharkhavoSent sent = charkhavo_serve(end->memory, 8, end->stored, CHARKHAVO_WORDS, end->output,
-                                         CHARKHAVO_BYTES, &end->tags, reads, sizeof reads);
+    CharkhavoSent sent = served(end, reads, sizeof reads);
     expect_at(sent.refusal, CHARKHAVO_REFUSED_BYTE_0, 2, "serving another tag midway");
     CharkhavoRefusal refusal = charkhavo_refusal(good, 8);
     expect_at(refusal, CHARKHAVO_REFUSED_PAST_END, 2, "a request without its second read");
@@ -245,26 +278,33 @@ static void later_headers(struct Controller *end) {
 /* The controller with NULL, of length 0, for each buffer in turn. */
 static void nothing_to_serve(struct Controller *end) {
     const size_t words = CHARKHAVO_WORDS, bytes = CHARKHAVO_BYTES;
-    CharkhavoSent sent = charkhavo_serve(NULL, 0, end->stored, words, end->output, bytes,
-                                         &end->tags, nop, 4);
+    CharkhavoSent sent = charkhavo_serve(NULL, 0, end->kept, bytes, end->stored, words, end->output,
+                                         bytes, &end->tags, nop, 4);
     expect_number(sent.refusal, CHARKHAVO_REFUSED_LENT, "no memory");
-    sent = charkhavo_serve(end->memory, 8, NULL, 0, end->output, bytes, &end->tags, nop, 4);
+    sent = charkhavo_serve(end->memory, 8, NULL, 0, end->stored, words, end->output, bytes,
+                           &end->tags, nop, 4);
+    expect_number(sent.refusal, CHARKHAVO_REFUSED_LENT, "no kept request");
+    sent = charkhavo_serve(end->memory, 8, end->kept, bytes, NULL, 0, end->output, bytes,
+                           &end->tags, nop, 4);
     expect_number(sent.refusal, CHARKHAVO_REFUSED_LENT, "no stored answer");
-    sent = charkhavo_serve(end->memory, 8, end->stored, words, NULL, 0, &end->tags, nop, 4);
+    sent = charkhavo_serve(end->memory, 8, end->kept, bytes, end->stored, words, NULL, 0,
+                           &end->tags, nop, 4);
     expect_number(sent.refusal, CHARKHAVO_REFUSED_LENT, "no output");
-    sent = charkhavo_serve(end->memory, 8, end->stored, words, end->output, bytes, &end->tags,
-                           NULL, 0);
+    sent = served(end, NULL, 0);
     expect_number(sent.refusal, CHARKHAVO_REFUSED_LENGTH, "no datagram");
 }
 
 /* The limit of the header is that of both libraries: what is one short of it is refused. */
 static void one_short(struct Controller *end) {
     const size_t words = CHARKHAVO_WORDS, bytes = CHARKHAVO_BYTES;
-    CharkhavoSent sent = charkhavo_serve(end->memory, 8, end->stored, words - 1, end->output,
-                                         bytes, &end->tags, nop, 4);
+    CharkhavoSent sent = charkhavo_serve(end->memory, 8, end->kept, bytes - 1, end->stored, words,
+                                         end->output, bytes, &end->tags, nop, 4);
+    expect_number(sent.refusal, CHARKHAVO_REFUSED_LENT, "a kept request one byte short");
+    sent = charkhavo_serve(end->memory, 8, end->kept, bytes, end->stored, words - 1, end->output,
+                           bytes, &end->tags, nop, 4);
     expect_number(sent.refusal, CHARKHAVO_REFUSED_LENT, "a stored answer one word short");
-    sent = charkhavo_serve(end->memory, 8, end->stored, words, end->output, bytes - 1, &end->tags,
-                           nop, 4);
+    sent = charkhavo_serve(end->memory, 8, end->kept, bytes, end->stored, words, end->output,
+                           bytes - 1, &end->tags, nop, 4);
     expect_number(sent.refusal, CHARKHAVO_REFUSED_LENT, "an output one byte short");
     CharkhavoBuilding building = CHARKHAVO_NO_BUILDING;
     CharkhavoRefusal refusal =
@@ -355,6 +395,7 @@ int main(void) {
     }
     expect(end.memory[1] == 0xFEEDC0DE, "memory after the write");
     expect(end.tags.tag == 2 && sender.next == 3 && !sender.waits, "the records at the end");
+    another_body(&end);
     later_headers(&end);
     nothing_to_serve(&end);
     one_short(&end);

@@ -11,8 +11,8 @@
 
 /* The calls that refuse, and the refusals of each. */
 enum Call { SERVE, REFUSAL, BEGIN, ADD, CLOSE, OFFER, SEND, TAKE, DISCOVERED, CALLS };
-static const struct { const char *name; uint8_t refusals[13]; } calls[CALLS] = {
-    {"serve", {0, 1, 2, 3, 4, 5, 6, 7, 8, 9, 10, 11, 99}},
+static const struct { const char *name; uint8_t refusals[14]; } calls[CALLS] = {
+    {"serve", {0, 1, 2, 3, 4, 5, 6, 7, 8, 9, 10, 11, 12, 99}},
     {"refusal", {0, 2, 3, 4, 5, 6, 7, 8, 9, 10, 99}},
     {"begin", {0, 21, 99}},
     {"add", {0, 21, 22, 23, 24, 25, 26, 99}},
@@ -26,8 +26,8 @@ static uint32_t counts[CALLS][39];
 
 /* The two ends, and a byte more than the limit of what comes to them. */
 static uint32_t memory[MEMORY_WORDS], stored[CHARKHAVO_WORDS];
-static uint8_t output[CHARKHAVO_BYTES];
-static CharkhavoTagRecord tags = {true, 0, 0};
+static uint8_t kept[CHARKHAVO_BYTES], output[CHARKHAVO_BYTES];
+static CharkhavoTagRecord tags = {true, 0, 0, 0};
 static CharkhavoSender sender;
 static uint8_t message[CHARKHAVO_BYTES + 1], answer[CHARKHAVO_BYTES + 1];
 static uint64_t length, answered;
@@ -233,18 +233,20 @@ static void build_message(void) {
     mix_bytes(message, length);
 }
 
-/* Serves the message; the answer is kept if there is one. */
+/* Serves the message; the answer is set aside if there is one. */
 static void serve(void) {
     uint64_t memory_length = once_in(200) ? 0 : MEMORY_WORDS;
     uint64_t stored_length = CHARKHAVO_WORDS - (once_in(200) ? 1 : 0);
+    uint64_t kept_length = CHARKHAVO_BYTES - (once_in(200) ? 1 : 0);
     uint64_t output_length = CHARKHAVO_BYTES - (once_in(200) ? 1 : 0);
     if (once_in(200)) {
         tags.fresh = false;
         tags.tag = draw(18);
         tags.words = draw(CHARKHAVO_WORDS + 2);
+        tags.request = draw(CHARKHAVO_WORDS + 2);
     }
-    CharkhavoSent sent = charkhavo_serve(memory, memory_length, stored, stored_length, output, output_length, &tags,
-                                         message, length);
+    CharkhavoSent sent = charkhavo_serve(memory, memory_length, kept, kept_length, stored, stored_length, output,
+                                         output_length, &tags, message, length);
     note(SERVE, sent.refusal);
     mix(sent.sent);
     mix_bytes(output, sent.sent);
@@ -252,13 +254,38 @@ static void serve(void) {
     mix(tags.fresh);
     mix(tags.tag);
     mix(tags.words);
+    mix(tags.request);
     if (sent.sent > 0) {
+        mix_bytes(kept, 4 * tags.request);
         answered = sent.sent;
         copy(answer, output, answered);
     }
     if (sent.refusal.number == CHARKHAVO_REFUSED_LENT || once_in(500)) {
-        tags = (CharkhavoTagRecord){true, 0, 0};
+        tags = (CharkhavoTagRecord){true, 0, 0, 0};
     }
+}
+
+/* Alters a bit of the message: of its first, its second, its last or any byte. */
+static void alter(void) {
+    uint32_t any = draw((uint32_t)length);
+    uint64_t places[4] = {0, 1, length - 1, any};
+    uint64_t place = places[draw(4)];
+    message[place] ^= (uint8_t)(1 << draw(8));
+}
+
+/* Serves the message again as it is, or altered, or another of most likely its tag; it then is as it was. */
+static void serve_again(void) {
+    static uint8_t first[sizeof message];
+    uint64_t first_length = length;
+    copy(first, message, length);
+    if (once_in(6)) {
+        draw_message();
+    } else if (length > 1 && once_in(2)) {
+        alter();
+    }
+    serve();
+    length = first_length;
+    copy(message, first, length);
 }
 
 /* Alters the answer: a bit of its first words, or its length. */
@@ -340,16 +367,20 @@ static void play(uint32_t round) {
     }
     note(REFUSAL, charkhavo_refusal(message, length));
     serve();
+    if (once_in(2)) {
+        serve_again();
+    }
     if (once_in(4)) {
         damage();
     }
     exchange();
     tell();
-    if (once_in(10)) {
+    if (once_in(4)) {
         discover();
     }
     if (round % 256 == 0) {
         mix_bytes(output, CHARKHAVO_BYTES);
+        mix_bytes(kept, CHARKHAVO_BYTES);
         mix_bytes(message, CHARKHAVO_BYTES);
         mix_words(stored, CHARKHAVO_WORDS);
     }

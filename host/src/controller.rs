@@ -4,11 +4,12 @@ use crate::ffi::{self, TagRecord};
 use crate::limits::{BYTES, WORDS};
 use crate::refusal::Refusal;
 
-/// A controller: its stored answer, its output and its tag record. Memory is lent to it at each
-/// call, and may be changed by others in between.
+/// A controller: its stored answer, its kept request, its output and its tag record. Memory is
+/// lent to it at each call, and may be changed by others in between.
 #[derive(Clone, Debug, PartialEq, Eq)]
 pub struct Controller {
     stored: [u32; WORDS],
+    kept: [u8; BYTES],
     output: [u8; BYTES],
     tags: TagRecord,
 }
@@ -16,8 +17,8 @@ pub struct Controller {
 impl Controller {
     /// A controller that has no tag stored, and takes any as new.
     pub fn fresh() -> Controller {
-        let tags = TagRecord { fresh: true, tag: 0, words: 0 };
-        Controller { stored: [0; WORDS], output: [0; BYTES], tags }
+        let tags = TagRecord { fresh: true, tag: 0, words: 0, request: 0 };
+        Controller { stored: [0; WORDS], kept: [0; BYTES], output: [0; BYTES], tags }
     }
 
     /// The stored tag: that of the last new message; none while fresh.
@@ -26,10 +27,10 @@ impl Controller {
     }
 
     /// Serves one datagram upon a memory of 1 to 16,384 words; gives the bytes to send back.
-    /// Refusals: 1 where memory is of another length, 2 to 11; with one, nothing has changed.
+    /// Refusals: 1 where memory is of another length, 2 to 12; with one, nothing has changed.
     pub fn serve(&mut self, memory: &mut [u32], datagram: &[u8]) -> Result<&[u8], Refusal> {
-        let Controller { stored, output, tags } = self;
-        let sent = ffi::serve(memory, stored, output, tags, datagram);
+        let Controller { stored, kept, output, tags } = self;
+        let sent = ffi::serve(memory, stored, kept, output, tags, datagram);
         sent.refusal.result()?;
         Ok(&output[..sent.sent])
     }

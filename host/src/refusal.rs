@@ -34,6 +34,7 @@ impl Refusal {
     pub const AFTER_LAST: Refusal = Refusal::of(9);
     pub const LONG_ANSWER: Refusal = Refusal::of(10);
     pub const OUT_OF_STEP: Refusal = Refusal::of(11);
+    pub const OTHER_BYTES: Refusal = Refusal::of(12);
 
     // Building a message.
     pub const BUILDING: Refusal = Refusal::of(21);
@@ -55,9 +56,10 @@ impl Refusal {
     pub const DISCOVERY: Refusal = Refusal::of(38);
 }
 
-/// Document 01's sentence for each number; `{words}` and `{bytes}` stand for the limit.
-pub const TABLE: [(u32, &str); 26] = [
-    (1, "memory, stored answer or output has a forbidden length, or the record is not fresh and not (tag 0 to 15, length 1 to {words})"),
+/// Document 01's sentence for each number, 1 and 12 by request [7]; `{words}` and `{bytes}` stand
+/// for the limit.
+pub const TABLE: [(u32, &str); 27] = [
+    (1, "memory, stored answer, kept request or output has a forbidden length, or the record is not fresh and not (tag 0 to 15, both lengths 1 to {words})"),
     (2, "0 bytes, not a multiple of 4, or over {bytes}"),
     (3, "a header or body runs past the end"),
     (4, "byte 0 differs from the first header's"),
@@ -68,6 +70,7 @@ pub const TABLE: [(u32, &str); 26] = [
     (9, "words follow the LAST command"),
     (10, "the answer with all commands OK would pass {words} words"),
     (11, "out of step (discovery clear)"),
+    (12, "a repeat whose bytes differ from the kept request"),
     (21, "short output, kind over 2, tag over 15 or a building record that no sequence of calls gives"),
     (22, "adding after closing, closing twice or closing with nothing added"),
     (23, "count"),

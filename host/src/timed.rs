@@ -12,6 +12,7 @@ use std::time::Instant;
 pub trait Controller {
     const NAME: &'static str;
     /// An earlier one may do another thing, as under another limit, and is not timed where it does.
+    /// It may keep no request, so what it leaves of that is not looked at.
     const EARLIER: bool = false;
     type Record;
 
@@ -21,40 +22,62 @@ pub trait Controller {
     fn serve(
         memory: &mut [u32],
         stored: &mut [u32],
+        kept: &mut [u8],
         output: &mut [u8],
         tags: &mut Self::Record,
         datagram: &[u8],
     ) -> (u32, usize);
 }
 
-/// A proved controller, straight through its library: this one, or an earlier one where the
-/// build was given one.
-pub struct Proved<const EARLIER: bool>;
+/// The proved controller, straight through its library.
+pub struct Proved;
 
-impl<const EARLIER: bool> Controller for Proved<EARLIER> {
-    const NAME: &'static str = if EARLIER { "before" } else { "proved" };
-    const EARLIER: bool = EARLIER;
+impl Controller for Proved {
+    const NAME: &'static str = "proved";
     type Record = ffi::TagRecord;
 
     fn fresh() -> ffi::TagRecord {
-        ffi::TagRecord { fresh: true, tag: 0, words: 0 }
+        ffi::TagRecord { fresh: true, tag: 0, words: 0, request: 0 }
     }
 
     #[inline(always)]
     fn serve(
         memory: &mut [u32],
         stored: &mut [u32],
+        kept: &mut [u8],
         output: &mut [u8],
         tags: &mut ffi::TagRecord,
         datagram: &[u8],
     ) -> (u32, usize) {
-        const { assert!(!EARLIER || cfg!(feature = "before"), "no earlier one is linked") };
-        #[cfg(feature = "before")]
-        if EARLIER {
-            let served = ffi::serve_before(memory, stored, output, tags, datagram);
-            return (served.refusal.number, served.sent);
-        }
-        let served = ffi::serve(memory, stored, output, tags, datagram);
+        let served = ffi::serve(memory, stored, kept, output, tags, datagram);
+        (served.refusal.number, served.sent)
+    }
+}
+
+/// An earlier proved controller, where the build was given one.
+#[cfg(feature = "before")]
+pub struct Before;
+
+#[cfg(feature = "before")]
+impl Controller for Before {
+    const NAME: &'static str = "before";
+    const EARLIER: bool = true;
+    type Record = ffi::before::TagRecord;
+
+    fn fresh() -> ffi::before::TagRecord {
+        ffi::before::fresh()
+    }
+
+    #[inline(always)]
+    fn serve(
+        memory: &mut [u32],
+        stored: &mut [u32],
+        kept: &mut [u8],
+        output: &mut [u8],
+        tags: &mut ffi::before::TagRecord,
+        datagram: &[u8],
+    ) -> (u32, usize) {
+        let served = ffi::before::serve(memory, stored, kept, output, tags, datagram);
         (served.refusal.number, served.sent)
     }
 }
@@ -74,11 +97,12 @@ impl Controller for Plain {
     fn serve(
         memory: &mut [u32],
         stored: &mut [u32],
+        kept: &mut [u8],
         output: &mut [u8],
         tags: &mut plain::TagRecord,
         datagram: &[u8],
     ) -> (u32, usize) {
-        let served = plain::serve(memory, stored, output, tags, datagram);
+        let served = plain::serve(memory, stored, kept, output, tags, datagram);
         (served.refusal.number, served.sent)
     }
 }
@@ -113,15 +137,17 @@ pub fn cases() -> Vec<Case> {
 /// Messages of so many words, or whose answer has so many, or a few less.
 fn filling(words: usize) -> Vec<Case> {
     let (many, pairs) = (words / 3, words / 4);
-    let reads = format!("read of {} words", words - 1);
-    let mut repeat = tags(&format!("repeat of a {reads}"), |tag| read(tag, words - 1));
-    repeat.datagrams.truncate(1);
+    let written =
+        tags(&format!("write of {} words", words - 2), |tag| writes(tag, 1, words - 2, || 0xFF));
+    let read = tags(&format!("read of {} words", words - 1), |tag| read(tag, words - 1));
+    let (read_again, written_again) = (repeats(&read), repeats(&written));
     vec![
         tags(&format!("{many} writes of 1 word"), |tag| writes(tag, many, 1, || 0x0F)),
         tags(&format!("{pairs} writes of 2 words"), |tag| writes(tag, pairs, 2, || 0xFF)),
-        tags(&format!("write of {} words", words - 2), |tag| writes(tag, 1, words - 2, || 0xFF)),
-        tags(&reads, |tag| read(tag, words - 1)),
-        repeat,
+        written,
+        read,
+        read_again,
+        written_again,
         tags(&format!("{many} writes of 1 word, 2 bytes enabled"), |tag| {
             writes(tag, many, 1, || 0x06)
         }),
@@ -141,6 +167,11 @@ fn tags(name: &str, datagram: impl Fn(u32) -> Vec<u8>) -> Case {
     Case { name: name.into(), datagrams: (0..16).map(datagram).collect() }
 }
 
+/// The first datagram of a case alone, so that all but the first of them are repeats.
+fn repeats(of: &Case) -> Case {
+    Case { name: format!("repeat of a {}", of.name), datagrams: vec![of.datagrams[0].clone()] }
+}
+
 /// A message of some writes, each to a place of its own, its enables (byte 1 of the
 /// header) asked for.
 fn writes(tag: u32, commands: usize, count: usize, mut enables: impl FnMut() -> u32) -> Vec<u8> {
@@ -158,20 +189,19 @@ fn read(tag: u32, count: usize) -> Vec<u8> {
     bytes_of(&[Header::new(tag | 2 << 4, 0, count).0 | Header::LAST, 4 * tag])
 }
 
-/// Memory, stored answer and output.
-type Contents = (Vec<u32>, Vec<u32>, Vec<u8>);
-
-/// The buffers, one set for both controllers.
+/// The buffers, one set for all controllers.
+#[derive(Clone)]
 struct Buffers {
     memory: Vec<u32>,
     stored: Vec<u32>,
+    kept: Vec<u8>,
     output: Vec<u8>,
 }
 
 impl Buffers {
     fn new() -> Buffers {
         let memory = vec![0; MEMORY.max(WORDS + 16)];
-        Buffers { memory, stored: vec![0; WORDS], output: vec![0; BYTES] }
+        Buffers { memory, stored: vec![0; WORDS], kept: vec![0; BYTES], output: vec![0; BYTES] }
     }
 
     fn refill(&mut self) {
@@ -179,12 +209,17 @@ impl Buffers {
             *word = 0x9E37_79B9_u32.wrapping_mul(place as u32);
         }
         self.stored.fill(0);
+        self.kept.fill(0);
         self.output.fill(0);
     }
 
-    /// What a round has left behind, for comparison.
-    fn contents(&self) -> Contents {
-        (self.memory.clone(), self.stored.clone(), self.output.clone())
+    /// Whether a controller has left the same contents as ours; an earlier one's kept request is
+    /// not looked at.
+    fn same(&self, ours: &Buffers, earlier: bool) -> bool {
+        self.memory == ours.memory
+            && self.stored == ours.stored
+            && self.output == ours.output
+            && (earlier || self.kept == ours.kept)
     }
 }
 
@@ -194,23 +229,24 @@ type Round = fn(&Case, &mut Buffers, usize) -> f64;
 /// A controller to be timed.
 pub struct Timed {
     pub name: &'static str,
+    earlier: bool,
     timed: fn(&Case, &mut Buffers) -> bool,
     round: Round,
 }
 
 impl Timed {
     fn new<C: Controller>() -> Timed {
-        Timed { name: C::NAME, timed: timed::<C>, round: round::<C> }
+        Timed { name: C::NAME, earlier: C::EARLIER, timed: timed::<C>, round: round::<C> }
     }
 }
 
 /// The controllers of the measurement, ours first.
 pub fn controllers() -> Vec<Timed> {
     vec![
-        Timed::new::<Proved<false>>(),
+        Timed::new::<Proved>(),
         Timed::new::<Plain>(),
         #[cfg(feature = "before")]
-        Timed::new::<Proved<true>>(),
+        Timed::new::<Before>(),
     ]
 }
 
@@ -226,8 +262,9 @@ pub fn compare(
     let mut times = vec![Vec::new(); controllers.len()];
     let timed: Vec<bool> = controllers.iter().map(|c| (c.timed)(case, &mut buffers)).collect();
     for number in 0..rounds {
+        // Ours goes first in these rounds.
         let compared = number % controllers.len() == 0;
-        let mut left = None;
+        let mut ours = None;
         for turn in 0..controllers.len() {
             let which = (number + turn) % controllers.len();
             if !timed[which] {
@@ -235,9 +272,9 @@ pub fn compare(
             }
             times[which].push((controllers[which].round)(case, &mut buffers, messages));
             if compared {
-                let contents = buffers.contents();
-                let same = *left.get_or_insert_with(|| contents.clone()) == contents;
-                assert!(same, "{}: {} does another thing", case.name, controllers[which].name);
+                let Timed { name, earlier, .. } = controllers[which];
+                let ours = ours.get_or_insert_with(|| buffers.clone());
+                assert!(buffers.same(ours, earlier), "{}: {name} does another thing", case.name);
             }
         }
     }
@@ -246,13 +283,18 @@ pub fn compare(
 
 /// Whether a case is timed: always, but for an earlier controller that does another thing.
 fn timed<C: Controller>(case: &Case, buffers: &mut Buffers) -> bool {
-    !C::EARLIER || left::<C>(case, buffers) == left::<Proved<false>>(case, buffers)
+    if !C::EARLIER {
+        return true;
+    }
+    let ours = twice::<Proved>(case, buffers);
+    let left = buffers.clone();
+    twice::<C>(case, buffers) == ours && buffers.same(&left, C::EARLIER)
 }
 
-/// What one pass comes to: 0 if nothing was refused, and the contents it leaves.
-fn left<C: Controller>(case: &Case, buffers: &mut Buffers) -> (u32, Contents) {
+/// Two passes over refilled buffers, so that what is repeated is; 0 if nothing was refused.
+fn twice<C: Controller>(case: &Case, buffers: &mut Buffers) -> u32 {
     buffers.refill();
-    (play::<C>(case, buffers, &mut C::fresh(), 1), buffers.contents())
+    play::<C>(case, buffers, &mut C::fresh(), 2)
 }
 
 /// One round; gives nanoseconds a message.
@@ -280,8 +322,8 @@ fn play<C: Controller>(
     for _ in 0..passes {
         for datagram in &case.datagrams {
             let datagram = black_box(datagram.as_slice());
-            let Buffers { memory, stored, output } = &mut *buffers;
-            let (refusal, sent) = C::serve(memory, stored, output, tags, datagram);
+            let Buffers { memory, stored, kept, output } = &mut *buffers;
+            let (refusal, sent) = C::serve(memory, stored, kept, output, tags, datagram);
             black_box((sent, &output[..]));
             refused |= refusal;
         }

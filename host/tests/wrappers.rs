@@ -37,11 +37,32 @@ fn a_controller_serves_repeats_and_refuses() {
     let before = controller.clone();
     let late = bytes_of(&[0x8001_0F12, 4, 0]);
     assert_eq!(controller.serve(&mut memory, &late), refused(11));
+    let other = bytes_of(&[A[0], A[1], 0]);
+    assert_eq!(controller.serve(&mut memory, &other), refused(12));
     assert_eq!(controller.serve(&mut memory, &[]), refused(2));
     assert_eq!(controller.serve(&mut memory, &bytes_of(&READS[..2])), refused_at(3, 2));
     assert_eq!(controller.serve(&mut [], &bytes_of(&A)), refused(1));
     assert_eq!(controller.serve(&mut vec![0; MEMORY + 1], &bytes_of(&A)), refused(1));
     assert!(controller == before && memory == [0, 5, 0, 0, 0, 0, 0, 0]);
+}
+
+/// The fault that put us here: a loader that restarts and counts from nought. Its write was taken
+/// for a repeat, answered OK and not stored; now it is refused, and one that asks gets through.
+#[test]
+fn a_loader_that_counts_from_nought_is_refused() {
+    let (mut controller, mut memory) = (Controller::fresh(), [0; 8]);
+    controller.serve(&mut memory, &bytes_of(&A)).unwrap();
+    let mut sender = Sender::fresh();
+    let delay = |tag: u32| bytes_of(&[0x8001_0F10 | tag, 8, 7]);
+    sender.offer(&delay(0)).unwrap();
+    assert_eq!(controller.serve(&mut memory, sender.send().unwrap()), refused(12));
+    assert_eq!(memory[2], 0);
+    let answer = controller.serve(&mut memory, &Sender::discovery()).unwrap();
+    let mut sender = Sender::discovered(answer).unwrap();
+    sender.offer(&delay(1)).unwrap();
+    let answer = controller.serve(&mut memory, sender.send().unwrap()).unwrap();
+    assert_eq!(sender.take(answer).unwrap().status(0), Some(Status::Ok));
+    assert_eq!(memory[2], 7);
 }
 
 #[test]

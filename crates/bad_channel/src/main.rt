@@ -28,6 +28,7 @@ struct Bytes {
 struct Controller {
     memory: [u32; 8],
     stored: [u32; limits::LIMIT],
+    kept: [u8; limits::LIMIT_BYTES],
     tags: TagRecord,
 }
 
@@ -106,8 +107,16 @@ fn say_served(served: Served) {
 fn arrives(c: Controller, datagram: &[u8]) -> Arrived {
     let mut memory = c.memory;
     let mut stored = c.stored;
+    let mut kept = c.kept;
     let mut bytes = [0u8; limits::LIMIT_BYTES];
-    let served = serving::serve(&mut memory, &mut stored, &mut bytes, c.tags, datagram);
+    let served = serving::serve(
+        &mut memory,
+        &mut stored,
+        &mut kept,
+        &mut bytes,
+        c.tags,
+        datagram,
+    );
     let tags = served.tags;
     let n = served.sent;
     say_served(served);
@@ -116,6 +125,7 @@ fn arrives(c: Controller, datagram: &[u8]) -> Arrived {
         controller: Controller {
             memory,
             stored,
+            kept,
             tags,
         },
         answer: Bytes { bytes, n },
@@ -245,6 +255,7 @@ fn dusk() -> Ends {
         controller: Controller {
             memory: [0; 8],
             stored: [0; limits::LIMIT],
+            kept: [0; limits::LIMIT_BYTES],
             tags: TagRecord::fresh(),
         },
         before: Bytes {

@@ -50,12 +50,14 @@ fn bytes_of(words: [u32; 15]) -> [u8; 60] {
 fn served(bench: Bench, datagram: Datagram) -> Bench {
     let mut memory = bench.memory;
     let mut stored = bench.stored;
+    let mut kept = bench.kept;
     let mut output = [0u8; limits::LIMIT_BYTES];
     let words = datagram.words;
     let bytes = bytes_of(words);
     let served = serving::serve(
         &mut memory,
         &mut stored,
+        &mut kept,
         &mut output,
         bench.tags,
         show::front(&bytes, datagram.bytes),
@@ -67,6 +69,7 @@ fn served(bench: Bench, datagram: Datagram) -> Bench {
     Bench {
         memory,
         stored,
+        kept,
         tags,
     }
 }

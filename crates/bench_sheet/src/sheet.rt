@@ -2,12 +2,13 @@
 use header::limits;
 use tags::record::TagRecord;
 
-pub(crate) const LINES: usize = 24;
+pub(crate) const LINES: usize = 32;
 
 // The controller on the bench.
 pub(crate) struct Bench {
     pub(crate) memory: [u32; 8],
     pub(crate) stored: [u32; limits::LIMIT],
+    pub(crate) kept: [u8; limits::LIMIT_BYTES],
     pub(crate) tags: TagRecord,
 }
 
@@ -17,6 +18,7 @@ impl Bench {
         Bench {
             memory: [0, 0, 0, 0, 0xF00D_FACE, 0, 0, 0],
             stored: [0; limits::LIMIT],
+            kept: [0; limits::LIMIT_BYTES],
             tags,
         }
     }
@@ -54,6 +56,14 @@ pub(crate) fn say_label(i: usize) {
 * another tag in the fifth header
 * a stored answer of the limit
 * and of one word more
+* a kept request of the limit
+* and of one word more
+  (a)
+* (a) with another data word
+* (a) with a write behind it
+* (a) again
+  a read
+* the read with another byte 1
   no bytes
   3 bytes
   count 0
@@ -64,23 +74,26 @@ pub(crate) fn say_label(i: usize) {
     );
 }
 
-// A bench that holds tag 15 and a stored answer of so many words.
-fn held(words: usize) -> Bench {
+// A bench that holds tag 15, and a stored answer and a kept request of so many words.
+fn held(words: usize, request: usize) -> Bench {
     Bench::of(TagRecord {
         fresh: false,
         tag: 15,
         words,
+        request,
     })
 }
 
-// What line i starts from: the document's bench, with the record that the line names; (b), (c) and (d) go on from the
-// line before.
+// What line i starts from: the document's bench, with the record that the line names; (b), (c), (d) and what follows
+// (a) or a read under their tag go on from the line before.
 pub(crate) fn start(i: usize, before: Bench) -> Bench {
     match i {
-        4 | 5 | 6 | 8 => before,
-        9 => held(1),
-        16 => held(limits::LIMIT),
-        17 => held(limits::LIMIT + 1),
+        4 | 5 | 6 | 8 | 21 | 22 | 23 | 25 => before,
+        9 => held(1, 1),
+        16 => held(limits::LIMIT, 1),
+        17 => held(limits::LIMIT + 1, 1),
+        18 => held(1, limits::LIMIT),
+        19 => held(1, limits::LIMIT + 1),
         _ => Bench::fresh(),
     }
 }
@@ -93,16 +106,16 @@ fn first(bytes: usize, a: u32, b: u32, c: u32, d: u32) -> Datagram {
     }
 }
 
-// A write within memory and one behind it.
-fn past_the_end() -> Datagram {
+// Two writes of one word, the second to this address.
+fn two_writes(address: u32, word: u32, next: u32) -> Datagram {
     let last = 0x8001_0F10;
     Datagram {
         words: [
             0x0001_0F10,
-            0,
-            0x1111_1111,
+            address,
+            word,
             last,
-            0x20,
+            next,
             0x2222_2222,
             0,
             0,
@@ -150,21 +163,25 @@ pub(crate) fn datagram_of(i: usize) -> Datagram {
         0 => first(8, 0x8001_0080, 4, 0, 0),
         1 => first(8, 0x8001_00A0, 0x10, 0, 0),
         2 => first(12, 0x8001_0F90, 4, 0xFEED_C0DE, 0),
-        3 | 5 | 7 | 9 | 16 | 17 => first(12, 0x8001_0F10, 4, 0xFEED_C0DE, 0),
+        3 | 5 | 7 | 9 | 16..=20 | 23 => first(12, 0x8001_0F10, 4, 0xFEED_C0DE, 0),
         4 => first(12, 0x8001_0F90, 4, 0, 0),
         6 => first(12, 0x8001_0411, 4, 0xAABB_CCDD, 0),
         8 => first(12, 0x8001_0F12, 4, 0, 0),
         10 => first(8, 0x8002_0020, 0x1C, 0, 0),
-        11 => past_the_end(),
+        11 => two_writes(0, 0x1111_1111, 0x20),
         12 => first(16, 0x8001_0F50, 4, 1, 0),
         13 => first(16, 0x8002_A510, 8, 0x1122_3344, 0x5566_7788),
         14 => first(16, 0x8002_A510, 12, 0x1122_3344, 0x5566_7788),
         15 => fifth_differs(),
-        18 => first(0, 0, 0, 0, 0),
-        19 => first(3, 0x0001_0F10, 0, 0, 0),
-        20 => first(8, 0x8000_0F10, 4, 0, 0),
-        21 => first(12, 0x9001_0F10, 4, 0, 0),
-        22 => first(8, 0x88C2_0020, 0, 0, 0),
+        21 => first(12, 0x8001_0F10, 4, 0xFEED_C0DF, 0),
+        22 => two_writes(4, 0xFEED_C0DE, 8),
+        24 => first(8, 0x8001_0020, 0x10, 0, 0),
+        25 => first(8, 0x8001_1120, 0x10, 0, 0),
+        26 => first(0, 0, 0, 0, 0),
+        27 => first(3, 0x0001_0F10, 0, 0, 0),
+        28 => first(8, 0x8000_0F10, 4, 0, 0),
+        29 => first(12, 0x9001_0F10, 4, 0, 0),
+        30 => first(8, 0x88C2_0020, 0, 0, 0),
         _ => first(8, 0x88C3_0020, 0, 0, 0),
     }
 }

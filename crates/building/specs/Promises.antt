@@ -39,5 +39,6 @@ RefusedBeginStops =
 -- [4] "All others .. give 0": no refusal of building has a place
 pub record NoPlace : Type 0 where
   pub begin : (room kind tag : ℕ) (wide discovery : Bool) → begun room kind tag wide discovery .refusal .at ≡ 0
-  pub add : (out : List ℕ) (b : Building) (asked : Asked) (payload : List ℕ) → added out b asked payload .refusal .at ≡ 0
+  pub add : (out : List ℕ) (b : Building) (asked : Asked) (payload : List ℕ)
+      → added out b asked payload .refusal .at ≡ 0
   pub close : (out : List ℕ) (b : Building) → closed out b .refusal .at ≡ 0

@@ -62,7 +62,7 @@ pub record FailsThere (t : Task) (n : ℕ) (s o : List ℕ) (r : Place) (s' o' :
   pub words : r .words ≡ n + 1
   pub puts : Puts (t .keep) n (headerFrom (t .answer) (codeOf Error) 0 true ∷ []) s o s' o'
 
--- a request carried out: n words of answer, at the front of the output and, where they are kept, of the stored words
+-- a request carried out: n words of answer, at the front of the output and, where it is kept, of the stored words
 pub record Carries (r : Request) (mark : ℕ) (keep : Bool) (m s o : List ℕ) (n : ℕ) (m' s' o' : List ℕ) : Type 0 where
   pub words : n ≡ length (wordsTo r mark m)
   pub memory : m' ≡ memoryAfter r m

@@ -15,7 +15,7 @@ use memory::moves;
 use message::address;
 
 // What is the same for every command of a message: its byte 0, the kind it names, the answer's byte 0, word 1 of the
-// advertisement, and whether the answer is kept.
+// advertisement, and whether the message is kept, its answer then being stored.
 pub struct Task {
     pub byte0: u32,
     pub kind: Kind,

@@ -13,7 +13,7 @@ ghost use Rattle.carrying.specs.Putting.{keptIn, Puts};
 use answer::Status;
 use tags::record::TagRecord;
 
-// One word of the stored answer, where it is kept.
+// One word of the stored answer, where the message is kept.
 fn keep_word(stored: &mut [u32], keep: bool, n: usize, w: u32)
     requires { ⌜ n < length (now stored) ⌝ }
     ensures { λ _. ⌜ now (stored .exit) ≡ keptIn keep (now (stored .entry)) n (w ∷ []) ⌝ }
@@ -24,7 +24,7 @@ fn keep_word(stored: &mut [u32], keep: bool, n: usize, w: u32)
     stored[n] = w;
 }
 
-// A run of words of the stored answer, where it is kept.
+// A run of words of the stored answer, where the message is kept.
 fn keep_words(stored: &mut [u32], keep: bool, n: usize, words: &[u32])
     requires { ⌜ length (now words) ≤ longest ⌝ }
     requires { ⌜ n + length (now words) ≤ length (now stored) ⌝ }

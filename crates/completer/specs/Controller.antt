@@ -1,23 +1,30 @@
 -- The controller's state, and what is there after a call. A buffer that is lent besides is a field more, here and in
 -- the one definition of Serving that says what is kept. Assumes nothing.
-use Prim.Native.Nat.{ℕ}
+use Prim.Native.Nat.{ℕ, _*_}
 use mathlib.Core.List.{List}
+use lib.ListN.{take}
 use Rattle.header.specs.declared.refusal.Refusal.{Refusal}
 use Rattle.tags.specs.declared.record.TagRecord.{TagRecord}
 
--- "Besides memory the caller lends a stored answer", and the record is handed on from call to call
+-- "Besides memory the caller lends a stored answer", [7] the last request "in a further lent buffer", as bytes, and the
+-- record is handed on from call to call
 pub record Controller : Type 0 where
   pub memory : List ℕ
   pub stored : List ℕ
+  pub kept : List ℕ
   pub tags : TagRecord
 
 -- what a call is lent, and what it leaves, as a controller
-abbrev pub lent : List ℕ → List ℕ → TagRecord → Controller
-lent memory stored tags = record { memory = memory; stored = stored; tags = tags }
+abbrev pub lent : List ℕ → List ℕ → List ℕ → TagRecord → Controller
+lent memory stored kept tags = record { memory = memory; stored = stored; kept = kept; tags = tags }
 
 -- the same controller over another memory
 abbrev pub withMemory : Controller → List ℕ → Controller
-withMemory c memory = lent memory (c .stored) (c .tags)
+withMemory c memory = lent memory (c .stored) (c .kept) (c .tags)
+
+-- [7] "the kept request": as many words of the buffer as the record says, in bytes
+abbrev pub requestIn : List ℕ → TagRecord → List ℕ
+requestIn kept tags = take (4 * tags .request) kept
 
 -- after a call: its refusal (number 0: none), the bytes sent, "the first n of the output, n being the returned length",
 -- the controller and the whole output

@@ -1,5 +1,5 @@
 -- The call: what is there after it. Assumes nothing.
-use Prim.Native.Nat.{ℕ, _*_}
+use Prim.Native.Nat.{ℕ, _*_, _/_}
 use mathlib.Core.Bool.{true}
 use mathlib.Core.List.{List}
 use lib.ListN.{length, take}
@@ -23,22 +23,36 @@ answerBy c r = wordsTo r (markOf (c .tags)) (c .memory)
 abbrev pub carriedOut : Controller → Request → Controller
 carriedOut c r = withMemory c (memoryAfter r (c .memory))
 
--- "store tag and answer"; "words of the stored answer past its new length, keep what they held"
-abbrev pub keeping : Controller → Request → List ℕ → Controller
-keeping c r answer = lent (c .memory) (put (c .stored) 0 answer) (recordBy true (c .tags) (r .byte0) (length answer))
+-- "store tag and answer", [7] "keep the last request as well as its answer"; "words of the stored answer past its new
+-- length", and bytes of the kept request past its own, "keep what they held"
+abbrev pub keeping : Controller → List ℕ → List ℕ → Controller
+keeping c dg answer =
+    lent (c .memory) (put (c .stored) 0 answer) (put (c .kept) 0 dg)
+    (recordBy true (c .tags) (requestOf dg .byte0) (length answer) (length dg / 4))
 
 -- so many words sent, which stand at the front of the output; "later output bytes .. keep what they held"
 abbrev pub sends : ℕ → List ℕ → Controller → List ℕ → After
 sends n words c output = left (refusal 0) (4 * n) c (putWords output 0 words)
 
+-- the datagram's request is carried out; it is new, or a discovery
+abbrev pub discovers : Controller → List ℕ → List ℕ → After
+discovers c output dg =
+    let answer = answerBy c (requestOf dg) in
+    sends (length answer) answer (carriedOut c (requestOf dg)) output
+
+abbrev pub accepts : Controller → List ℕ → List ℕ → After
+accepts c output dg =
+    let answer = answerBy c (requestOf dg) in
+    sends (length answer) answer (keeping (carriedOut c (requestOf dg)) dg answer) output
+
 -- refused: "its number and length 0; memory, stored answer, record and output are unchanged". A repeat: "the stored
 -- answer is sent, nothing else happens". New: "carry out, store tag and answer". Discovery: "the message is carried
 -- out, and tag and stored answer stay".
-abbrev pub afterBy : Verdict → Controller → List ℕ → Request → After
-afterBy (Refused r) c output q = left r 0 c output
-afterBy Repeat c output q = sends (c .tags .words) (take (c .tags .words) (c .stored)) c output
-afterBy Discovery c output q = sends (length (answerBy c q)) (answerBy c q) (carriedOut c q) output
-afterBy New c output q = sends (length (answerBy c q)) (answerBy c q) (keeping (carriedOut c q) q (answerBy c q)) output
+abbrev pub afterBy : Verdict → Controller → List ℕ → List ℕ → After
+afterBy (Refused r) c output dg = left r 0 c output
+afterBy Repeat c output dg = sends (c .tags .words) (take (c .tags .words) (c .stored)) c output
+afterBy Discovery c output dg = discovers c output dg
+afterBy New c output dg = accepts c output dg
 
 unfoldable pub after : Controller → List ℕ → List ℕ → After
-after c output dg = afterBy (verdictOf c output dg) c output (requestOf dg)
+after c output dg = afterBy (verdictOf c output dg) c output dg

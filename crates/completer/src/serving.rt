@@ -1,16 +1,16 @@
 // The controller's call: what follows from the verdict on a datagram.
 ghost use mathlib.Core.Path.{_≡_};
 ghost use mathlib.Core.Bool.{true, false, cond};
-ghost use Prim.Native.Nat.{_*_, _≤_};
+ghost use Prim.Native.Nat.{_*_, _%_, _≤_};
 ghost use lib.ListN.{length};
-ghost use Rattle.header.specs.Limits.{limit};
+ghost use Rattle.header.specs.Limits.{limit, limitBytes};
 ghost use Rattle.message.specs.Request.{Means};
 ghost use Rattle.message.specs.Walk.{read, requestOf};
 ghost use Rattle.carrying.specs.Putting.{Room};
 ghost use Rattle.tags.specs.Record.{recordOk};
 ghost use Rattle.completer.specs.Controller.{lent, left};
 ghost use Rattle.completer.specs.Serving.{afterBy, after};
-ghost use Rattle.completer.specs.Settling.{carriesOf, keepsOf, refusalOf, againOf, Settles};
+ghost use Rattle.completer.specs.Settling.{carriesOf, keepsOf, refusalOf, againOf, Settles, keptBy};
 ghost use Rattle.tags.specs.declared.rule.Verdict.the-variants.{New, Discovery};
 use crate::verdict;
 use carrying::carry;
@@ -18,6 +18,7 @@ use header::refusal::Refusal;
 use tags::record;
 use tags::record::TagRecord;
 use tags::rule::Verdict;
+use word::run;
 
 // What a call gives: the refusal (number 0: none), the bytes sent, which stand at the front of the output, and the
 // record.
@@ -40,7 +41,7 @@ fn carries(verdict: Verdict) -> bool
     }
 }
 
-// Whether the answer is kept.
+// Whether the message is kept, and its answer stored.
 fn keeps(verdict: Verdict) -> bool
     ensures { λ r. ⌜ r ≡ keepsOf verdict ⌝ }
 {
@@ -93,14 +94,28 @@ fn settle(stored: &[u32], output: &mut [u8], tags: TagRecord, verdict: Verdict) 
             fresh: tags.fresh,
             tag: tags.tag,
             words: tags.words,
+            request: tags.request,
         },
     }
 }
 
-// A message that is carried out: a new one, whose answer is kept, or a discovery.
+// A message's bytes to the front of the kept request, if it is kept. Every other byte stays.
+fn keep_request(kept: &mut [u8], datagram: &[u8], keep: bool)
+    requires { ⌜ (length (now datagram) % 4 ≡ 0)
+        × (length (now datagram) ≤ limitBytes)
+        × (limitBytes ≤ length (now kept)) ⌝ }
+    ensures { λ _. ⌜ now (kept .exit) ≡ keptBy keep (now (kept .entry)) (now (datagram .entry)) ⌝ }
+{
+    if keep {
+        run::copy_bytes(kept, datagram, datagram.len() / 4);
+    }
+}
+
+// A message that is carried out: a new one, which is kept with its answer, or a discovery.
 fn act(
     memory: &mut [u32],
     stored: &mut [u32],
+    kept: &mut [u8],
     output: &mut [u8],
     tags: TagRecord,
     datagram: &[u8],
@@ -108,27 +123,22 @@ fn act(
 ) -> Served
     requires { ⌜ (read (now datagram) ≡ Means (requestOf (now datagram)))
         × (recordOk tags ≡ true)
-        × Room (now stored) (now output) ⌝ }
+        × Room (now stored) (now output)
+        × (limitBytes ≤ length (now kept)) ⌝ }
     ensures { λ r. ⌜ left (r .refusal) (r .sent)
-        (lent (now (memory .exit)) (now (stored .exit)) (r .tags)) (now (output .exit))
+        (lent (now (memory .exit)) (now (stored .exit)) (now (kept .exit)) (r .tags)) (now (output .exit))
         ≡ afterBy (cond keep New Discovery)
-        (lent (now (memory .entry)) (now (stored .entry)) tags) (now (output .entry))
-        (requestOf (now (datagram .entry))) ⌝ }
+        (lent (now (memory .entry)) (now (stored .entry)) (now (kept .entry)) tags) (now (output .entry))
+        (now (datagram .entry)) ⌝ }
 {
     let byte0 = word::from_byte(datagram[0]);
-    let n = carry::carry(
-        memory,
-        stored,
-        output,
-        datagram,
-        byte0,
-        record::mark(tags),
-        keep,
-    );
+    let mark = record::mark(tags);
+    keep_request(kept, datagram, keep);
+    let n = carry::carry(memory, stored, output, datagram, byte0, mark, keep);
     Served {
         refusal: Refusal::of(Refusal::NONE),
         sent: 4 * n,
-        tags: record::record_after(tags, byte0, n, keep),
+        tags: record::record_after(tags, byte0, n, datagram.len() / 4, keep),
     }
 }
 
@@ -136,18 +146,27 @@ fn act(
 pub fn serve(
     memory: &mut [u32],
     stored: &mut [u32],
+    kept: &mut [u8],
     output: &mut [u8],
     tags: TagRecord,
     datagram: &[u8],
 ) -> Served
     ensures { λ r. ⌜ left (r .refusal) (r .sent)
-        (lent (now (memory .exit)) (now (stored .exit)) (r .tags)) (now (output .exit))
+        (lent (now (memory .exit)) (now (stored .exit)) (now (kept .exit)) (r .tags)) (now (output .exit))
         ≡ after
-        (lent (now (memory .entry)) (now (stored .entry)) tags) (now (output .entry)) (now (datagram .entry)) ⌝ }
+        (lent (now (memory .entry)) (now (stored .entry)) (now (kept .entry)) tags) (now (output .entry))
+        (now (datagram .entry)) ⌝ }
 {
-    let verdict = verdict::verdict_of(memory.len(), stored.len(), output.len(), tags, datagram);
+    let verdict = verdict::verdict_of(
+        memory.len(),
+        stored.len(),
+        kept,
+        output.len(),
+        tags,
+        datagram,
+    );
     if carries(verdict) {
-        return act(memory, stored, output, tags, datagram, keeps(verdict));
+        return act(memory, stored, kept, output, tags, datagram, keeps(verdict));
     }
     settle(stored, output, tags, verdict)
 }

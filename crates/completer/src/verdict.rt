@@ -1,9 +1,14 @@
 // The verdict on a datagram: turned away, new, a repeat or a discovery.
 ghost use mathlib.Core.Path.{_≡_};
 ghost use mathlib.Core.Bool.{true};
+ghost use Prim.Native.Nat.{_≤_};
+ghost use lib.ListN.{length};
+ghost use Rattle.header.specs.Limits.{limit, limitBytes};
 ghost use Rattle.message.specs.Walk.{read};
 ghost use Rattle.tags.specs.Record.{recordOk};
-ghost use Rattle.completer.specs.Verdict.{lentOk, judged, verdictBy};
+ghost use Rattle.completer.specs.Controller.{requestIn};
+ghost use Rattle.completer.specs.Verdict.{lentOk, judged, asKept, heldTo, verdictBy};
+ghost use Rattle.completer.specs.Settling.{repeatOf};
 use header::refusal::Refusal;
 use message::walk;
 use message::walk::Walked;
@@ -11,6 +16,7 @@ use tags::record;
 use tags::record::TagRecord;
 use tags::rule;
 use tags::rule::Verdict;
+use word::run;
 
 // Check 1 of memory and output.
 fn lent_ok(memory: usize, output: usize) -> bool
@@ -25,7 +31,31 @@ fn lent_ok(memory: usize, output: usize) -> bool
     output >= TagRecord::BYTES
 }
 
-// The verdict on any datagram where what is lent is right: 2 to 10, then by the tag.
+// Whether a datagram's bytes are those of the kept request.
+fn same_request(kept: &[u8], tags: TagRecord, datagram: &[u8]) -> bool
+    requires { ⌜ tags .request ≤ limit ⌝ }
+    requires { ⌜ limitBytes ≤ length (now kept) ⌝ }
+    ensures { λ r. ⌜ r ≡ asKept (requestIn (now (kept .entry)) tags) (now (datagram .entry)) ⌝ }
+{
+    if datagram.len() != 4 * tags.request {
+        return false;
+    }
+    run::same_words(kept, datagram, tags.request)
+}
+
+// Whether a verdict is a repeat.
+fn is_repeat(verdict: Verdict) -> bool
+    ensures { λ r. ⌜ r ≡ repeatOf verdict ⌝ }
+{
+    match verdict {
+        Verdict::Refused(_) => false,
+        Verdict::New => false,
+        Verdict::Repeat => true,
+        Verdict::Discovery => false,
+    }
+}
+
+// The verdict on any datagram where what is lent is right, before its bytes are compared: 2 to 10, then by the tag.
 fn judge(tags: TagRecord, datagram: &[u8]) -> Verdict
     requires { ⌜ recordOk tags ≡ true ⌝ }
     ensures { λ r. ⌜ r ≡ judged tags (read (now (datagram .entry))) ⌝ }
@@ -37,21 +67,39 @@ fn judge(tags: TagRecord, datagram: &[u8]) -> Verdict
     }
 }
 
+// The verdict where what is lent is right: a repeat has to be the kept request.
+fn hold(kept: &[u8], tags: TagRecord, datagram: &[u8]) -> Verdict
+    requires { ⌜ recordOk tags ≡ true ⌝ }
+    requires { ⌜ limitBytes ≤ length (now kept) ⌝ }
+    ensures { λ r. ⌜ r ≡ heldTo (requestIn (now (kept .entry)) tags) (now (datagram .entry))
+        (judged tags (read (now (datagram .entry)))) ⌝ }
+{
+    let verdict = judge(tags, datagram);
+    if !is_repeat(verdict) {
+        return verdict;
+    }
+    if same_request(kept, tags, datagram) {
+        return verdict;
+    }
+    Verdict::Refused(Refusal::of(Refusal::OTHER_BYTES))
+}
+
 // The verdict on any datagram, whatever is lent.
 pub fn verdict_of(
     memory: usize,
     stored: usize,
+    kept: &[u8],
     output: usize,
     tags: TagRecord,
     datagram: &[u8],
 ) -> Verdict
-    ensures { λ r. ⌜ r ≡ verdictBy memory stored output tags (now (datagram .entry)) ⌝ }
+    ensures { λ r. ⌜ r ≡ verdictBy memory stored (now (kept .entry)) output tags (now (datagram .entry)) ⌝ }
 {
     if !lent_ok(memory, output) {
         return Verdict::Refused(Refusal::of(Refusal::LENT));
     }
-    if !record::kept_ok(stored, tags) {
+    if !record::kept_ok(stored, kept.len(), tags) {
         return Verdict::Refused(Refusal::of(Refusal::LENT));
     }
-    judge(tags, datagram)
+    hold(kept, tags, datagram)
 }

@@ -17,21 +17,23 @@ pub struct Sent {
 }
 
 // One datagram served, for any buffers, any record and any bytes; the record then holds what the call by value gives.
+// The kept request stands before the stored answer: the compiler's registers are best in that order.
 #[no_mangle]
 pub extern "C" fn charkhavo_serve(
     memory: &mut [u32],
+    kept: &mut [u8],
     stored: &mut [u32],
     output: &mut [u8],
     tags: &mut TagRecord,
     datagram: &[u8],
 ) -> Sent
     ensures { λ r. ⌜ left (r .refusal) (r .sent)
-        (lent (now (memory .exit)) (now (stored .exit)) (now (tags .exit))) (now (output .exit))
+        (lent (now (memory .exit)) (now (stored .exit)) (now (kept .exit)) (now (tags .exit))) (now (output .exit))
         ≡ after
-        (lent (now (memory .entry)) (now (stored .entry)) (now (tags .entry))) (now (output .entry))
+        (lent (now (memory .entry)) (now (stored .entry)) (now (kept .entry)) (now (tags .entry))) (now (output .entry))
         (now (datagram .entry)) ⌝ }
 {
-    let served = serving::serve(memory, stored, output, *tags, datagram);
+    let served = serving::serve(memory, stored, kept, output, *tags, datagram);
     *tags = served.tags;
     Sent {
         refusal: served.refusal,

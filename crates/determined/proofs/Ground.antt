@@ -12,6 +12,8 @@ in-word =
       put-words = λ M 𝓤 H A mem run κs a g one other. one-of 𝓤;
       get-words = λ M 𝓤 H A mem run κs a g one other. one-of 𝓤;
       copy-words = λ M 𝓤 H A mem run κs a g one other. one-of 𝓤;
+      copy-bytes = λ M 𝓤 H A mem run κs a g one other. one-of 𝓤;
+      same-words = λ M 𝓤 H A mem run κs a g one other. one-of 𝓤;
     }
 
 pub in-header : InHeader

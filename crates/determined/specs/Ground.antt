@@ -10,6 +10,8 @@ use Rattle.word.proofs.merge as Merge
 use Rattle.word.proofs.run.put_words as PutWords
 use Rattle.word.proofs.run.get_words as GetWords
 use Rattle.word.proofs.run.copy_words as CopyWords
+use Rattle.word.proofs.run.copy_bytes as CopyBytes
+use Rattle.word.proofs.run.same_words as SameWords
 use Rattle.header.proofs.tag as Tag
 use Rattle.header.proofs.next_tag as NextTag
 use Rattle.header.proofs.kind_no as KindNo
@@ -69,6 +71,8 @@ pub record InWord : Type 2 where
   pub put-words : Determined PutWords.ended (λ M. PutWords.clauses) (λ κs r e. now (e .0))
   pub get-words : Determined GetWords.ended (λ M. GetWords.clauses) (λ κs r e. now (e .0))
   pub copy-words : Determined CopyWords.ended (λ M. CopyWords.clauses) (λ κs r e. now (e .0))
+  pub copy-bytes : Determined CopyBytes.ended (λ M. CopyBytes.clauses) (λ κs r e. now (e .0))
+  pub same-words : Determined SameWords.ended (λ M. SameWords.clauses) (λ κs r e. r)
 
 -- `header`
 pub record InHeader : Type 2 where

@@ -71,16 +71,20 @@ Determined T contract back =
 abbrev pub beside : {A B : Type 0} → A → B → A × B
 beside r output = (r, output)
 
--- The controller: the refusal, the bytes sent, memory, stored answer, record and output, all of them.
+-- The controller: the refusal, the bytes sent, memory, stored answer, kept request, record and output, all of them.
 pub record Controlling : Type 2 where
   pub verdict-of : Determined VerdictOf.ended (λ M. VerdictOf.clauses) (λ κs r e. r)
   pub serve :
       Determined Serve.ended (λ M. Serve.clauses)
-      (λ κs r e. left (r .refusal) (r .sent) (lent (now (e .0)) (now (e .1 .0)) (r .tags)) (now (e .1 .1 .0)))
+      (λ κs r e.
+      left (r .refusal) (r .sent) (lent (now (e .0)) (now (e .1 .0)) (now (e .1 .1 .0)) (r .tags))
+      (now (e .1 .1 .1 .0)))
   pub in-place :
       Determined ServeInPlace.ended (λ M. ServeInPlace.clauses)
       (λ κs r e.
-      left (r .refusal) (r .sent) (lent (now (e .0)) (now (e .1 .0)) (now (e .1 .1 .1 .0))) (now (e .1 .1 .0)))
+      left (r .refusal) (r .sent)
+      (lent (now (e .0)) (now (e .1 .1 .0)) (now (e .1 .0)) (now (e .1 .1 .1 .1 .0)))
+      (now (e .1 .1 .1 .0)))
 
 -- Building: the refusal and the record, and what the output then holds.
 pub record Building : Type 2 where

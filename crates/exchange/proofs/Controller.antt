@@ -1,5 +1,5 @@
 -- The facts about the controller's call: new, again, late and quiet. Assumes nothing.
-use Prim.Native.Nat.{ℕ}
+use Prim.Native.Nat.{ℕ, _*_, _/_}
 use mathlib.Core.Path.{_≡_, refl, sym, ap, subst, _∙_}
 use mathlib.Core.Bool.{Bool, true, false, cond}
 use mathlib.Core.Option.{none, some, Option·some-injective}
@@ -14,8 +14,10 @@ use Rattle.header.specs.declared.Kind.the-variants.{Write}
 use Rattle.header.specs.declared.refusal.Refusal.{Refusal}
 use Rattle.header.specs.Header.{tagOf, kindOf, discoveryOf}
 use Rattle.header.specs.Refusal.{refusal}
+use Rattle.header.proofs.Laws.Limits.{Right}
 use Rattle.message.specs.Request.{Request, Reading, Refused, Means, Fits}
 use Rattle.message.specs.Walk.{read, requestOf}
+use Rattle.message.proofs.Laws.Going.{read-first}
 use Rattle.message.proofs.Laws.Back.{written-read}
 use Rattle.message.proofs.Laws.Exactly.{refusal-range}
 use Rattle.message.proofs.Laws.Back as message
@@ -28,22 +30,22 @@ use Rattle.tags.specs.Rule.{ruleOf}
 use Rattle.tags.proofs.Laws.Record.{rule-finds, record-held}
 use Rattle.completer.specs.Serving.{afterBy, after}
 use Rattle.completer.specs.Verdict.{judged}
-use Rattle.completer.specs.Controller.{Controller, withMemory, After}
-use Rattle.completer.proofs.Laws.Called.{repeat-sends, verdict-is}
+use Rattle.completer.specs.Controller.{Controller, withMemory, requestIn, After}
+use Rattle.completer.proofs.Laws.Called.{repeat-sends, verdict-is, called-by}
 use Rattle.once.specs.Tags.{new, again, late, verdict, tagIn, answerIn, Carried, Kept}
 use Rattle.exchange.specs.Outcomes.{outcomeOver}
 use Rattle.exchange.specs.Ends.{ends, sentIn}
 use Rattle.exchange.specs.Terms.{Lendable, findsOnly, Finds, terms, Sound}
 use Rattle.exchange.specs.Sight.{Plain, Encodes, Answers, Strange, storedBy, sight}
 use Rattle.exchange.proofs.Codec.{asked-is, asked-fits, first-is}
-use Rattle.exchange.proofs.Going.{mark-free, allowed-is, serving-is, judged-is, items, words, encodes, short, some-words}
+use Rattle.exchange.proofs.Going.{mark-free, allowed-is, serving-is, judged-is, repeats-it, items, words, encodes, short, some-words}
 
 -- a new message
 module _ (c : Controller) (b d : List ℕ) (h : Sound c) (l : Lendable b) (p : Plain d) (v : verdict (tagIn (storedBy c)) (tagOf (getD d 0 0)) ≡ new) where
   abbrev reply : List ℕ
   reply = words c h (requestOf d) (asked-fits p)
 
-  is-new : after c b d ≡ afterBy New c b (requestOf d)
+  is-new : after c b d ≡ afterBy New c b d
   is-new = serving-is c b h l d New (judged-is c p new v)
 
   first-tag : tagOf (requestOf d .byte0) ≡ tagOf (getD d 0 0)
@@ -60,7 +62,16 @@ module _ (c : Controller) (b d : List ℕ) (h : Sound c) (l : Lendable b) (p : P
             (mark-free (kindOf (requestOf d .byte0)) 0 (markOf (c .tags)) (c .memory) (requestOf d .commands));
       }
 
-  sound-new : Sound (afterBy New c b (requestOf d) .controller)
+  -- it is kept as it came
+  right : Right (length d)
+  right = read-first d (p .request) (p .is) .0
+
+  keeps : take (4 * (length d / 4)) (put (c .kept) 0 d) ≡ d
+  keeps =
+      let whole : 4 * (length d / 4) ≡ length d = omega (arith, right .whole) in
+      ap (λ (n : ℕ). take n (put (c .kept) 0 d)) whole ∙ put-front (c .kept) d
+
+  sound-new : Sound (afterBy New c b d .controller)
   sound-new =
       let n = same-length (requestOf d) (c .memory) in
       let k = short c h (requestOf d) (asked-fits p) in
@@ -70,7 +81,8 @@ module _ (c : Controller) (b d : List ℕ) (h : Sound c) (l : Lendable b) (p : P
         some = rw n (h .some);
         most = rw n (h .most);
         stored = rw (length-put (c .stored) 0 reply (omega (arith, h .stored))) (h .stored);
-        tags = record-held (tagOf (requestOf d .byte0)) (length reply) (omega arith) z k;
+        kept = rw (length-put (c .kept) 0 d (omega (arith, right .most, h .kept))) (h .kept);
+        tags = record-held (tagOf (requestOf d .byte0)) (length reply) (length d / 4) (omega arith) z k (omega (arith, right .some, right .whole)) (omega (arith, right .most));
       }
 
   pub does-new : Carried ends terms sight c d (ends .serve c b d)
@@ -83,7 +95,7 @@ module _ (c : Controller) (b d : List ℕ) (h : Sound c) (l : Lendable b) (p : P
         sound = sound-new;
         memory = refl;
         stored = rw (first-tag, ap bytesOf kept);
-        last = tt;
+        last = keeps;
       })
     where
       kept : take (length reply) (put (c .stored) 0 reply) ≡ reply
@@ -103,11 +115,12 @@ answer-stored c t v = go (c .tags .fresh) v
     go false e = refl
 
 module _ (c : Controller) (b : List ℕ) (h : Sound c) (l : Lendable b) where
-  pub does-again : {d : List ℕ} → Plain d → verdict (tagIn (storedBy c)) (tagOf (getD d 0 0)) ≡ again
+  pub does-again : {d : List ℕ} → Plain d → verdict (tagIn (storedBy c)) (tagOf (getD d 0 0)) ≡ again → requestIn (c .kept) (c .tags) ≡ d
       → ((ends .serve c b d) .1 ≡ answerIn (storedBy c)) × Kept ends terms sight c ((ends .serve c b d) .0)
-  does-again {d} p v =
-      let e = serving-is c b h l d Repeat (judged-is c p again v) in
-      let s = repeat-sends c b d (verdict-is c b d (allowed-is c b h l) ∙ judged-is c p again v) in (
+  does-again {d} p v k =
+      let r = repeats-it c p v k in
+      let e = called-by c b d (allowed-is c b h l) Repeat r in
+      let s = repeat-sends c b d (verdict-is c b d (allowed-is c b h l) ∙ r) in (
         subst (λ (a : After). take (a .sent) (a .output) ≡ bytesOf (take (c .tags .words) (c .stored)) → sentIn a ≡ answerIn (storedBy c)) (sym e)
             (λ q. ap some q ∙ answer-stored c (tagOf (getD d 0 0)) v) (s .sent),
         subst (λ (a : After). Kept ends terms sight c (a .controller)) (sym e) (kept-same c h),

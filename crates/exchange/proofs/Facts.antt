@@ -19,7 +19,7 @@ tagged =
       new = λ {c} {b} {d} {x} h l p e v. subst (λ (y : List ℕ). Carried ends terms sight c d (ends .serve c b y)) (sym e) (does-new c b d h l p v);
       again =
           λ {c} {b} {d} {x} h l p e v f.
-          subst (λ (y : List ℕ). ((ends .serve c b y) .1 ≡ answerIn (storedBy c)) × Kept ends terms sight c ((ends .serve c b y) .0)) (sym e) (does-again c b h l p v);
+          subst (λ (y : List ℕ). ((ends .serve c b y) .1 ≡ answerIn (storedBy c)) × Kept ends terms sight c ((ends .serve c b y) .0)) (sym e) (does-again c b h l p v f);
       late =
           λ {c} {b} {d} {x} h l p e v.
           subst (λ (y : List ℕ). ((ends .serve c b y) .1 ≡ none) × Kept ends terms sight c ((ends .serve c b y) .0)) (sym e) (does-late c b h l p v);

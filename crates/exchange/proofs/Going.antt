@@ -16,7 +16,7 @@ use Rattle.header.specs.Header.{tagOf, discoveryOf, nextTag}
 use Rattle.header.specs.Refusal.{refusal}
 use Rattle.header.proofs.Laws.Limits.{right}
 use Rattle.message.specs.Request.{Command, Request, Fits}
-use Rattle.message.specs.Walk.{read, requestOf}
+use Rattle.message.specs.Walk.{read}
 use Rattle.answer.specs.declared.Status.the-variants.{Ok}
 use Rattle.answer.specs.Answer.{Answered}
 use Rattle.answer.proofs.Laws.Giving.{encoded-is}
@@ -28,11 +28,11 @@ use Rattle.tags.specs.declared.rule.Verdict.the-variants.{Refused, New, Repeat}
 use Rattle.tags.specs.Rule.{repeats, expected, ruleOf}
 use Rattle.tags.specs.Record.{markOf}
 use Rattle.tags.proofs.Laws.Record.{holds, rule-plain, repeats-fresh, repeats-by, expected-fresh, expected-by, mark-small, kept-ok}
-use Rattle.completer.specs.Verdict.{judged}
+use Rattle.completer.specs.Verdict.{judged, heldTo}
 use Rattle.completer.specs.Serving.{answerBy, afterBy, after}
 use Rattle.completer.specs.Called.{allowed}
-use Rattle.completer.specs.Controller.{Controller}
-use Rattle.completer.proofs.Laws.Called.{lent-fits, called-by, answer-by}
+use Rattle.completer.specs.Controller.{Controller, requestIn}
+use Rattle.completer.proofs.Laws.Called.{kept-self, lent-fits, called-by, answer-by}
 use Rattle.initiator.specs.Outcome.{dataOf}
 use Rattle.once.specs.Tags as Tags
 use Rattle.once.specs.Tags.{new, again, late, verdict, tagIn}
@@ -62,14 +62,18 @@ mark-free kind a b m (c ∷ cs) =
     go true e = refl
     go false e = rw (data-free kind a b m c, e)
 
+-- the verdict, held to the kept request
+abbrev heldBy : Controller → List ℕ → Verdict → Verdict
+heldBy c x v = heldTo (requestIn (c .kept) (c .tags)) x v
+
 -- what an allowed controller is lent passes check 1
 module _ (c : Controller) (b : List ℕ) (h : Sound c) (l : Lendable b) where
   pub allowed-is : allowed c b ≡ true
-  allowed-is = rw (lent-fits (length (c .memory)) (length b) (h .some) (h .most) l, kept-ok (length (c .stored)) (c .tags) (h .stored) (h .tags))
+  allowed-is = rw (lent-fits (length (c .memory)) (length b) (h .some) (h .most) l, kept-ok (length (c .stored)) (length (c .kept)) (c .tags) (h .stored) (h .kept) (h .tags))
 
   -- so the call goes by the verdict on the datagram
-  pub serving-is : (x : List ℕ) (v : Verdict) → judged (c .tags) (read x) ≡ v → after c b x ≡ afterBy v c b (requestOf x)
-  serving-is x v e = called-by c b x allowed-is v e
+  pub serving-is : (x : List ℕ) (v : Verdict) → judged (c .tags) (read x) ≡ v → after c b x ≡ afterBy (heldBy c x v) c b x
+  serving-is x v e = called-by c b x allowed-is (heldBy c x v) (ap (heldBy c x) e)
 
 -- the rule of tags is that of `once`
 abbrev ruled : Tags.Verdict → Verdict
@@ -96,6 +100,11 @@ rule-is c byte0 z = rule-plain (c .tags) byte0 z ∙ go (c .tags .fresh) refl
 pub judged-is : (c : Controller) {d : List ℕ} (p : Plain d) (v : Tags.Verdict) → verdict (tagIn (storedBy c)) (tagOf (getD d 0 0)) ≡ v → judged (c .tags) (read d) ≡ ruled v
 judged-is c {d} p v e =
     ap (judged (c .tags)) (p .is) ∙ rule-is c (p .request .byte0) (p .clear) ∙ ap (λ n. ruled (verdict (tagIn (storedBy c)) (tagOf n))) (sym (first-is p)) ∙ ap ruled e
+
+-- a repeat of the kept request is let by
+pub repeats-it : (c : Controller) {d : List ℕ} (p : Plain d) → verdict (tagIn (storedBy c)) (tagOf (getD d 0 0)) ≡ again → requestIn (c .kept) (c .tags) ≡ d
+    → heldTo (requestIn (c .kept) (c .tags)) d (judged (c .tags) (read d)) ≡ Repeat
+repeats-it c {d} p e k = rw (judged-is c p again e, k, kept-self d)
 
 -- a stored tag is at most 15
 pub stored-small : (c : Controller) (t : ℕ) (a : List ℕ) → Sound c → storedBy c ≡ some (t, a) → t < 16

@@ -1,7 +1,8 @@
--- What proves it: Promise has the theorems. Facts: the two ends meet what `once` asks, from the facts about the loader (Sender) and the
--- controller (Controller, by what its call goes by: Going). Begins and Started: the two starts. Codec: what crosses the
--- channel. Counts: how many commands an outcome has. Example and Sharp compute, by the tests of Checked.
+-- What proves it: Promise has the theorems, and Never those about 12. Facts: the two ends meet what `once` asks, from the facts about the
+-- loader (Sender) and the controller (Controller, by what its call goes by: Going). Begins and Started: the two starts. Codec: what
+-- crosses the channel. Counts: how many commands an outcome has. Example, the incident too, and Sharp compute, by the tests of Checked.
 pub mod Promise
+pub mod Never
 pub mod Facts
 pub mod Sender
 pub mod Controller

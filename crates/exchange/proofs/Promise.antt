@@ -1,4 +1,5 @@
--- The theorems of specs/Promise.antt; `told-counts` stands in Counts.antt. Assumes nothing.
+-- The theorems of specs/Promise.antt, but for `told-counts` (proofs/Counts.antt) and for `comes-alone`, `never-twelve` and
+-- `answer-is-own` (proofs/Never.antt). Assumes nothing.
 use Prim.Native.Nat.{ℕ}
 use mathlib.Core.Path.{_≡_, refl, sym, ap, subst, _∙_}
 use mathlib.Core.Bool.{Bool, true, false, cond}

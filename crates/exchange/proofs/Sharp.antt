@@ -5,7 +5,7 @@ use mathlib.Core.Logic.{_⊎_, inl, inr}
 use mathlib.Core.List.{List}
 use native.Mathlib.Omega.{arith}
 use lib.ListN.{length, getD, take}
-use Rattle.word.specs.Words.{wordsOf, bytesOf, put, putWords}
+use Rattle.word.specs.Words.{wordsOf, bytesOf, put, putWords, same}
 use Rattle.word.specs.Enables.{byteOf, bitOf, ofBytes, merged}
 use Rattle.header.specs.Header.{kindNo, byte0From, headerFrom, headOf}
 use Rattle.header.specs.Limits.{lengthOk}
@@ -18,8 +18,8 @@ use Rattle.answer.specs.Answer.{statusNo, answerByte, answerFault, seenOf, look
 use Rattle.memory.specs.Moves.{outside, fetches, storesBehind, stores, moves, afterMoves, memoryAfter}
 use Rattle.carrying.specs.Answers.{answerOf, answers, answerTo, wordsTo}
 use Rattle.tags.specs.Rule.{repeats, expected, ruleOf}
-use Rattle.tags.specs.Record.{markOf, heldOk, recordOk, keptOk}
-use Rattle.completer.specs.Verdict.{lentOk, verdictBy}
+use Rattle.tags.specs.Record.{markOf, wordsOk, heldOk, recordOk, keptOk}
+use Rattle.completer.specs.Verdict.{lentOk, asKept, verdictBy}
 use Rattle.completer.specs.Serving.{answerBy, after}
 use Rattle.initiator.specs.Outcome.{judgedBy, endingAt, dataAt}
 use Rattle.initiator.specs.Asking.{plainly, askedAs, asksAs}
@@ -46,7 +46,7 @@ broken m w n o f unlike s = unlike (ap (λ l. getD l 0 0) (s .memory) ∙ ap (λ
 -- With 15 made 16 the first of sixteen messages is carried out again. With 16 made 17 the seventeenth is finished by the answer to the
 -- first, and was never carried out.
 pub sharp : Sharp
-unfolding wordsOf bytesOf put putWords byteOf bitOf ofBytes merged kindNo byte0From headerFrom headOf patternOk faultOf stepOn addressFrom commandOf commandsFrom replies ended lengthOk read statusNo answerByte answerFault seenOf lookOn answersFrom judge answeredWords answerWords outside fetches storesBehind stores moves afterMoves memoryAfter answerOf answers answerTo wordsTo requestOf repeats expected markOf lentOk heldOk recordOk keptOk ruleOf verdictBy answerBy after discoveryBytes judgedBy endingAt dataAt plainly askedAs asksAs offering sending offerOf sendOf takeOf each told
+unfolding wordsOf bytesOf put putWords same byteOf bitOf ofBytes merged kindNo byte0From headerFrom headOf patternOk faultOf stepOn addressFrom commandOf commandsFrom replies ended lengthOk read statusNo answerByte answerFault seenOf lookOn answersFrom judge answeredWords answerWords outside fetches storesBehind stores moves afterMoves memoryAfter answerOf answers answerTo wordsTo requestOf repeats expected markOf lentOk wordsOk heldOk recordOk keptOk ruleOf asKept verdictBy answerBy after discoveryBytes judgedBy endingAt dataAt plainly askedAs asksAs offering sending offerOf sendOf takeOf each told
 sharp = (
   (
     always-so laterRequests (start ends controller loader) lateRequest refl,

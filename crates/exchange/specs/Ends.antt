@@ -24,8 +24,9 @@ pub record Loader : Type 0 where
 abbrev pub sentIn : After → Option (List ℕ)
 sentIn a = cond (eqb (a .refusal .number) 0) (some (take (a .sent) (a .output))) none
 
-abbrev pub serveBy : Controller → List ℕ → List ℕ → Controller × Option (List ℕ)
-serveBy c output datagram = (after c output datagram .controller, sentIn (after c output datagram))
+abbrev pub serveBy : (Controller → List ℕ → List ℕ → After) → Controller → List ℕ → List ℕ
+    → Controller × Option (List ℕ)
+serveBy call c output datagram = (call c output datagram .controller, sentIn (call c output datagram))
 
 -- `offer`: an accepted message stays lent to the sender
 abbrev pub offeredIn : Moved → Loader → List ℕ → Loader
@@ -41,8 +42,9 @@ abbrev pub takenIn : Moved → Loader → List ℕ → Loader × List Outcome
 takenIn r s answer = cond (eqb (r .refusal .number) 0)
     (record { sender = r .sender; message = s .message }, told (s .message) answer ∷ []) (s, [])
 
-abbrev pub ends : Ends
-ends =
+-- the two ends, where a controller's call does what `call` says; ours does what `after` says
+abbrev pub endsBy : (Controller → List ℕ → List ℕ → After) → Ends
+endsBy call =
     record {
       Message = List ℕ;
       Datagram = List ℕ;
@@ -50,8 +52,11 @@ ends =
       Lent = List ℕ;
       Controller = Controller;
       Sender = Loader;
-      serve = serveBy;
+      serve = serveBy call;
       offer = λ s message. offeredIn (offerOf (s .sender) message) s message;
       send = λ s p. handed (sendOf (s .sender) (s .message));
       take = λ s answer. takenIn (takeOf (s .sender) (s .message) answer) s answer;
     }
+
+abbrev pub ends : Ends
+ends = endsBy after

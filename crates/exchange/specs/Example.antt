@@ -19,9 +19,14 @@ use Rattle.once.specs.World.{Event, offer, send, arrive, back, other, message, 
 use Rattle.exchange.specs.Ends.{Loader, ends}
 use Rattle.exchange.specs.Promise.{Begins, Night, morning}
 
--- A fresh pair: a memory of two zero words, and a stored answer of the least length.
+-- A fresh pair: a memory of two zero words, and a stored answer and a kept request's buffer of the least length.
 abbrev pub controller : Controller
-controller = record { memory = 0 ∷ 0 ∷ []; stored = replicate limit 0; tags = freshRecord }
+controller = record {
+  memory = 0 ∷ 0 ∷ [];
+  stored = replicate limit 0;
+  kept = replicate limitBytes 0;
+  tags = freshRecord;
+}
 
 abbrev pub loader : Loader
 loader = record { sender = freshSender; message = [] }

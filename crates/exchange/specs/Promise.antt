@@ -1,6 +1,7 @@
 -- The promise about the two ends of this project, in the user's words: what is assumed, then the theorems.
--- proofs/Promise.antt proves each under its own name. The words used here are defined in Ends (the ends, `ends`), Terms
--- (messages and what is lent, `terms`), and in the crate `once`: World (events, and what they do), Promise
+-- proofs/Promise.antt proves each under its own name, but for `ToldCounts` (proofs/Counts.antt) and for `ComesAlone`,
+-- `NeverTwelve` and `AnswerIsOwn` (proofs/Never.antt). The words used here are defined in Ends (the ends, `ends`),
+-- Terms (messages and what is lent, `terms`), and in the crate `once`: World (events, and what they do), Promise
 -- (`AllowedRun`, `made`, `results`, `Progress`, `Extends`). Assumes nothing.
 use Prim.Native.Nat.{ℕ, suc, _+_, _%_, _<_, _≤_}
 use mathlib.Core.Path.{_≡_}
@@ -10,8 +11,8 @@ use mathlib.Core.Option.{Option, none, some}
 use mathlib.Core.List.{List, [], _∷_, _++_}
 use lib.ListN.{length, getD, getElem?, take}
 use Rattle.word.specs.Words.{bytesOf}
-use Rattle.header.specs.Header.{tagOf, kindOf}
-use Rattle.message.specs.Request.{Command}
+use Rattle.header.specs.Header.{tagOf, kindOf, discoveryOf}
+use Rattle.message.specs.Request.{Command, Request, Means}
 use Rattle.message.specs.Discovery.{discoveryBytes}
 use Rattle.message.specs.Walk.{read, requestOf}
 use Rattle.answer.specs.Answer.{Answered}
@@ -19,11 +20,14 @@ use Rattle.memory.specs.Moves.{fails}
 use Rattle.memory.specs.Promises.{carried}
 use Rattle.carrying.specs.Answers.{failed}
 use Rattle.carrying.specs.Promises.{AnsweredThen}
+use Rattle.tags.specs.declared.rule.Verdict.the-variants.{Repeat}
 use Rattle.tags.specs.Record.{isFresh}
-use Rattle.completer.specs.Controller.{Controller}
+use Rattle.completer.specs.Controller.{Controller, requestIn}
+use Rattle.completer.specs.Serving.{accepts, afterBy, after as afterCall}
+use Rattle.completer.specs.Called.{allowed}
 use Rattle.initiator.specs.Outcome.{judgedBy, countIn}
 use Rattle.initiator.specs.Sender.{freshSender, startOf}
-use Rattle.once.specs.World.{Event, World, finished}
+use Rattle.once.specs.World.{Ends, Origin, Event, offer, send, arrive, back, other, World, finished, sent, step}
 use Rattle.once.specs.Promise.{Ages, AllowedRun, after, made, results, Progress, Extends}
 use Rattle.exchange.specs.Outcomes.{Outcome, resultOf, told, outcomeOver}
 use Rattle.exchange.specs.Ends.{Loader, ends}
@@ -35,8 +39,8 @@ pub record FreshPair (c : Controller) (s : Loader) : Type 0 where
   pub sender : s .sender ≡ freshSender
 
 -- "or a discovery answer made since the last accepted request": the sender is made from the answer to the fixed
--- discovery, which the controller gave when its record was what it is now. Its memory, its stored answer and what it
--- was lent may have been others.
+-- discovery, which the controller gave when its record was what it is now. Its memory, its stored answer, its kept
+-- request and what it was lent may have been others.
 pub record Discovered (c : Controller) (s : Loader) : Type 0 where
   pub earlier : Controller
   pub sound : Sound earlier
@@ -146,6 +150,50 @@ OutcomeCounts = (c : Controller) (s : Loader) → Begins c s → (es : List (Eve
 -- and what the loader is told has as many as `answered` says
 abbrev pub ToldCounts : Type 0
 ToldCounts = (message answer : List ℕ) → length (told message answer) ≡ countIn (judgedBy (read message) answer)
+
+-- what comes to the controller at an event, and what it is lent then, of any two ends: what was sent j-th, where
+-- something was handed back, or another datagram
+abbrev pub lentTo : {D L : Type 0} → L → Option D → Option (D × L)
+lentTo output none = none
+lentTo output (some datagram) = some (datagram, output)
+
+abbrev pub comes : (E : Ends) → World E → Event E → Option (E .Datagram × E .Lent)
+comes E w (offer message) = none
+comes E w (send p) = none
+comes E w (arrive j output) = lentTo output ((sent E w j) .1)
+comes E w (back n) = none
+comes E w (other datagram output) = some (datagram, output)
+
+-- what the controller is after that, and what it gives
+abbrev pub calledOn : (E : Ends) → E .Controller → Option (E .Datagram × E .Lent) → E .Controller × Option (E .Datagram)
+calledOn E c none = (c, none)
+calledOn E c (some call) = E .serve c (call .1) (call .0)
+
+-- Nothing else is served: neither the controller nor an answer comes of anything else.
+pub record Alone (E : Ends) (w : World E) (e : Event E) : Type 0 where
+  pub controller : step E 1 w e .controller ≡ (calledOn E (w .controller) (comes E w e)) .0
+  pub answers : (step E 1 w e .answers ≡ w .answers)
+      ⊎ ((from : Origin)
+      × (step E 1 w e .answers ≡ w .answers ++ (from, (calledOn E (w .controller) (comes E w e)) .1) ∷ []))
+
+-- So it is of any two ends, also of a controller that counts its calls: a call that changes nothing and gives nothing,
+-- as one that is refused, is named too.
+abbrev pub ComesAlone : Type 1
+ComesAlone = (E : Ends) (w : World E) (e : Event E) → Alone E w e
+
+-- [7] "Under demand 3's premises 12 is never given": not at any event of a night, to whatever comes
+abbrev pub NeverTwelve : Type 0
+NeverTwelve = (c : Controller) (s : Loader) → Begins c s → (es : List (Event ends)) (e : Event ends)
+    → Night c s (es ++ e ∷ []) → (datagram output : List ℕ) → comes ends (morning c s es) e ≡ some (datagram, output)
+    → afterCall (morning c s es .controller) output datagram .refusal .number ≡ 12 → ⊥
+
+-- And whatever the channel does: a message that is answered is carried out by that very call, or it is the kept
+-- request, and then "the stored answer is sent, nothing else happens".
+abbrev pub AnswerIsOwn : Type 0
+AnswerIsOwn = (c : Controller) (output message : List ℕ) (r : Request) → allowed c output ≡ true
+    → read message ≡ Means r → discoveryOf (r .byte0) ≡ false → afterCall c output message .refusal .number ≡ 0
+    → (afterCall c output message ≡ accepts c output message)
+    ⊎ ((requestIn (c .kept) (c .tags) ≡ message) × (afterCall c output message ≡ afterBy Repeat c output message))
 
 -- "If sending goes on and of any L sends in a row (L at least 1) one arrives and its answer is back before the next
 -- send, all are finished by send N times L.": for each number of messages, and from any moment on (`Progress` of once).

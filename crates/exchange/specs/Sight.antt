@@ -11,7 +11,7 @@ use Rattle.message.specs.Request.{Request, Means, Fits}
 use Rattle.message.specs.Walk.{read, requestOf}
 use Rattle.answer.specs.Answer.{Answered, encodeAnswer, FitsAnswer}
 use Rattle.tags.specs.Record.{isFresh}
-use Rattle.completer.specs.Controller.{Controller}
+use Rattle.completer.specs.Controller.{Controller, requestIn}
 use Rattle.once.specs.Tags.{Sight}
 use Rattle.exchange.specs.Outcomes.{Outcome, resultsIn}
 use Rattle.exchange.specs.Ends.{Loader, ends}
@@ -58,7 +58,7 @@ sight =
       tag = λ message. tagOf (getD message 0 0);
       Sound = Sound;
       stored = storedBy;
-      Last = λ c message. Unit {0};
+      Last = λ c message. requestIn (c .kept) (c .tags) ≡ message;
       next = λ s. s .sender .next;
       waiting = waitingBy;
       Copy = λ message datagram. datagram ≡ message;

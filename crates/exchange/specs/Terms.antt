@@ -49,10 +49,11 @@ terms =
     }
 
 -- An allowed controller: "Memory is a lent run of 1 to 16,384 32-bit words", "a stored answer of at least" the limit,
--- and an allowed record.
+-- [7] a kept request's buffer "of the same length", in bytes, and an allowed record.
 pub record Sound (c : Controller) : Type 0 where
   pub words : Words (c .memory)
   pub some : 1 ≤ length (c .memory)
   pub most : length (c .memory) ≤ mostMemory
   pub stored : limit ≤ length (c .stored)
+  pub kept : limitBytes ≤ length (c .kept)
   pub tags : recordOk (c .tags) ≡ true

@@ -15,7 +15,7 @@ impl Refusal {
 
     // Turned away by the controller.
 
-    // Memory, stored answer or output has a forbidden length, or the record is not one.
+    // Memory, stored answer, kept request or output has a forbidden length, or the record is not one.
     pub const LENT: u32 = 1;
     // No bytes, not a multiple of 4, or over the limit.
     pub const LENGTH: u32 = 2;
@@ -37,6 +37,8 @@ impl Refusal {
     pub const LONG_ANSWER: u32 = 10;
     // A tag that is neither the stored one nor the next, discovery clear.
     pub const OUT_OF_STEP: u32 = 11;
+    // The stored tag, discovery clear, and other bytes than the kept request's.
+    pub const OTHER_BYTES: u32 = 12;
 
     // Building a message.
 

@@ -5,10 +5,10 @@ use mathlib.Core.Path.{_≡_}
 use mathlib.Core.Bool.{Bool, true, _&&_}
 use mathlib.Core.List.{List, [], _∷_, _++_}
 use lib.ListN.{length, take, replicate}
-use Rattle.word.specs.Words.{bytesOf}
+use Rattle.word.specs.Words.{bytesOf, same}
 use Rattle.header.specs.Limits.{limitBytes}
 use Rattle.message.specs.Examples.{fifthDiffers}
-use Rattle.completer.specs.BenchSheet.{same, writeFeed}
+use Rattle.completer.specs.BenchSheet.{writeFeed, writeOther, writeLonger}
 use Rattle.night.specs.Text.{ascii, decimal, Short, textOf}
 use Rattle.night.specs.Night.{afterRecord, atFirst, nightText}
 
@@ -42,6 +42,9 @@ unfoldable pub nights : List Printed
 nights =
     -- "For records holding (a), (a) again and (d) .. the whole output is", with [4]'s index
     prints (a ++ (a ++ d)) "1 sent 1\n2 sent 1\n3 refused 11 at 0\ntag 0\n"
+    -- [7] (a), then (a) with another data word, and longer: 12 each time; (a) again is still the repeat
+    ∷ prints (a ++ (holds writeOther ++ (holds writeLonger ++ a)))
+    "1 sent 1\n2 refused 12 at 0\n3 refused 12 at 0\n4 sent 1\ntag 0\n"
     -- "the last line is `tag none` when fresh"
     ∷ prints [] "tag none\n"
     -- "A tail shorter than a record prints its number and `short`": a byte, and a byte less than a record

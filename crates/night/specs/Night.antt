@@ -52,12 +52,12 @@ turnOf c k got =
     cond (eqb (length got) 0) (turned c [] false)
     (cond (ltb (length got) recordBytes) (turned c (textOf k Short) false) (wholeTurn c k got))
 
--- "It starts fresh over 1,024 zero words"; nothing reads the stored answer before it is written
+-- "It starts fresh over 1,024 zero words"; nothing reads the stored answer or the kept request before it is written
 abbrev pub memoryWords : ℕ
 memoryWords = 1024
 
 unfoldable pub atFirst : Controller
-atFirst = lent (replicate memoryWords 0) (replicate limit 0) freshRecord
+atFirst = lent (replicate memoryWords 0) (replicate limit 0) (replicate limitBytes 0) freshRecord
 
 -- record k of the input, counted from 0, or what there is of it
 unfoldable pub recordAt : List ℕ → ℕ → List ℕ
@@ -80,7 +80,7 @@ nightText input =
 
 -- the state as the program holds it
 abbrev pub controllerOf : Night → Controller
-controllerOf n = lent (n .memory) (n .stored) (n .tags)
+controllerOf n = lent (n .memory) (n .stored) (n .kept) (n .tags)
 
 -- what a turn leaves: the state, whether records may follow, and a line of so many bytes at the front of the lent one
 pub record Left : Type 0 where

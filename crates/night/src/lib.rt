@@ -20,10 +20,11 @@ pub const RECORD: usize = 4 + limits::LIMIT_BYTES;
 // The bytes of a line: 74 are enough for three numbers of 64 bits and the words between them.
 pub const LINE: usize = 80;
 
-// The controller that the night is played to: memory, stored answer and record.
+// The controller that the night is played to: memory, stored answer, kept request and record.
 pub struct Night {
     memory: [u32; 1024],
     stored: [u32; limits::LIMIT],
+    kept: [u8; limits::LIMIT_BYTES],
     tags: TagRecord,
 }
 
@@ -35,6 +36,7 @@ impl Night {
         Night {
             memory: [0; 1024],
             stored: [0; limits::LIMIT],
+            kept: [0; limits::LIMIT_BYTES],
             tags: TagRecord::fresh(),
         }
     }
@@ -51,15 +53,17 @@ pub struct Turn {
 fn serve_record(
     memory: &mut [u32],
     stored: &mut [u32],
+    kept: &mut [u8],
     output: &mut [u8],
     tags: TagRecord,
     got: &[u8],
 ) -> Served
     requires { ⌜ recordBytes ≤ length (now got) ⌝ }
     ensures { λ r. ⌜ left (r .refusal) (r .sent)
-        (lent (now (memory .exit)) (now (stored .exit)) (r .tags)) (now (output .exit))
+        (lent (now (memory .exit)) (now (stored .exit)) (now (kept .exit)) (r .tags)) (now (output .exit))
         ≡ afterRecord
-        (lent (now (memory .entry)) (now (stored .entry)) tags) (now (output .entry)) (now (got .entry)) ⌝ }
+        (lent (now (memory .entry)) (now (stored .entry)) (now (kept .entry)) tags) (now (output .entry))
+        (now (got .entry)) ⌝ }
 {
     let n = word::word_at(got, 0) as usize;
     if n > limits::LIMIT_BYTES {
@@ -70,7 +74,7 @@ fn serve_record(
         };
     }
     let end = 4 + n;
-    serving::serve(memory, stored, output, tags, &got[4..end])
+    serving::serve(memory, stored, kept, output, tags, &got[4..end])
 }
 
 // Record k, a whole one: served, and its line.
@@ -81,14 +85,23 @@ fn whole(night: Night, k: u64, got: &[u8], line: &mut [u8; LINE]) -> Turn
 {
     let mut memory = night.memory;
     let mut stored = night.stored;
+    let mut kept = night.kept;
     let mut output = [0u8; limits::LIMIT_BYTES];
-    let served = serve_record(&mut memory, &mut stored, &mut output, night.tags, got);
+    let served = serve_record(
+        &mut memory,
+        &mut stored,
+        &mut kept,
+        &mut output,
+        night.tags,
+        got,
+    );
     let length = text::told(line, k, served.refusal, served.sent / 4);
     let tags = served.tags;
     Turn {
         night: Night {
             memory,
             stored,
+            kept,
             tags,
         },
         more: true,

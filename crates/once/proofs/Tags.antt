@@ -299,6 +299,10 @@ module _ {E : Ends} {T : Terms E} {S : Sight E T} (F : Tagged E T S) (c₀ : E .
   unfolding tagged-laws
   has-is h = h
 
+  pub copy-is : {d : Message} {x : Datagram} → tagged-laws .Copy d x → S .Copy d x
+  unfolding tagged-laws
+  copy-is p = p
+
   -- The laws hold also with the datagrams wrapped.
   pub tagged-wrapped : (X : Wrap Datagram) (head : Sender → ℕ → X .Head) → Crosses E X (S .Copy) (S .Answer) (S .Strange) →
       Laws (wrapped E X head) (wrappedTerms E X head T) 1 usual c₀ s₀

@@ -8,8 +8,8 @@ use mathlib.Core.Option.{Option, none, some}
 use mathlib.Core.List.{List, [], _∷_}
 use lib.Dec.{eqb}
 use lib.ListN.{length, take, getElem?}
-use Rattle.once.specs.World.{Ends, World, finished}
-use Rattle.once.specs.Promise.{Terms, made}
+use Rattle.once.specs.World.{Ends, World, finished, sent}
+use Rattle.once.specs.Promise.{Terms, usual, made}
 
 -- "Fresh takes any tag as new. Otherwise the stored tag is a repeat .. The next tag, modulo 16, is new .. Any other is
 -- out of step."
@@ -161,6 +161,14 @@ module _ (E : Ends) (T : Terms E) where
       -- those that are counted so have been offered, and memory is what they make of it, each carried out once in order
       pub within : w .taken ≤ length (w .offered)
       pub memory : T .memory (w .controller) ≡ made T (T .memory c) (take (w .taken) (w .offered))
+      -- the controller's buffers and its record are allowed
+      pub sound : S .Sound (w .controller)
+      -- what was sent j-th, where something was, is a copy of the message whose number stands beside it
+      pub sent : (j : ℕ) (x : Datagram) → j < length (w .air) → (sent E w j) .1 ≡ some x
+          → (d : Message) × (getElem? (w .offered) ((sent E w j) .0) ≡ some d) × S .Copy d x
+      -- a message that may arrive with the stored tag is the one whose answer is stored
+      pub repeats : (i : ℕ) (d : Message) → w .taken ≤ i + usual .request → getElem? (w .offered) i ≡ some d
+          → tagIn (S .stored (w .controller)) ≡ some (S .tag d) → S .Last (w .controller) d
       -- a sender made anew from what the controller stores is a start with it, whatever waited
       pub anew : (s′ : Sender) → S .waiting s′ ≡ none → S .next s′ ≡ nextTag (tagIn (S .stored (w .controller)))
           → Start (w .controller) s′

@@ -1,21 +1,23 @@
-// The tag record: no tag, or a tag and the length of the stored answer.
+// The tag record: no tag, or a tag and the lengths of the stored answer and of the kept request.
 ghost use mathlib.Core.Path.{_≡_};
 ghost use mathlib.Core.Bool.{true};
 ghost use Rattle.tags.specs.Record.{freshRecord, markOf, heldOk, recordOk, keptOk, recordBy};
 use header::limits;
 
-// What the controller keeps of the last message beside its answer. A fresh record's other fields are never looked at.
+// What the controller keeps of the last message beside its bytes and its answer: its tag, the words of the stored
+// answer, and those of the kept request. A fresh record's other fields are never looked at.
 #[repr(C)]
 pub struct TagRecord {
     pub fresh: bool,
     pub tag: u32,
     pub words: usize,
+    pub request: usize,
 }
 
 impl TagRecord {
     // The most words of a message, and so of a stored answer; the least words that a stored answer is lent in.
     pub const WORDS: usize = limits::LIMIT;
-    // The least bytes of an output; advertisement word 0.
+    // The least bytes of an output and of a kept request's buffer; advertisement word 0.
     pub const BYTES: usize = limits::LIMIT_BYTES;
     // The most words of memory.
     pub const MEMORY: usize = 16384;
@@ -28,6 +30,7 @@ impl TagRecord {
             fresh: true,
             tag: 0,
             words: 0,
+            request: 0,
         }
     }
 }
@@ -43,9 +46,9 @@ pub fn mark(tags: TagRecord) -> u32
     tags.tag + 16
 }
 
-// Whether a record may hold this tag and this length.
-fn held_ok(tag: u32, words: usize) -> bool
-    ensures { λ r. ⌜ r ≡ heldOk tag words ⌝ }
+// Whether a record may hold this tag and these lengths.
+fn held_ok(tag: u32, words: usize, request: usize) -> bool
+    ensures { λ r. ⌜ r ≡ heldOk tag words request ⌝ }
 {
     if tag >= limits::TAGS {
         return false;
@@ -53,7 +56,13 @@ fn held_ok(tag: u32, words: usize) -> bool
     if words < 1 {
         return false;
     }
-    words <= TagRecord::WORDS
+    if words > TagRecord::WORDS {
+        return false;
+    }
+    if request < 1 {
+        return false;
+    }
+    request <= TagRecord::WORDS
 }
 
 // Check 1 of the record.
@@ -63,33 +72,38 @@ pub fn record_ok(tags: TagRecord) -> bool
     if tags.fresh {
         return true;
     }
-    held_ok(tags.tag, tags.words)
+    held_ok(tags.tag, tags.words, tags.request)
 }
 
-// Check 1 of the stored answer and the record.
-pub fn kept_ok(stored: usize, tags: TagRecord) -> bool
-    ensures { λ r. ⌜ r ≡ keptOk stored tags ⌝ }
+// Check 1 of the record, the stored answer and the kept request.
+pub fn kept_ok(stored: usize, kept: usize, tags: TagRecord) -> bool
+    ensures { λ r. ⌜ r ≡ keptOk stored kept tags ⌝ }
 {
+    if !record_ok(tags) {
+        return false;
+    }
     if stored < TagRecord::WORDS {
         return false;
     }
-    record_ok(tags)
+    kept >= TagRecord::BYTES
 }
 
-// The record after a message was carried out, whose answer has n words.
-pub fn record_after(tags: TagRecord, byte0: u32, n: usize, keep: bool) -> TagRecord
-    ensures { λ r. ⌜ r ≡ recordBy keep tags byte0 n ⌝ }
+// The record after a message of so many words was carried out, whose answer has n words.
+pub fn record_after(tags: TagRecord, byte0: u32, n: usize, request: usize, keep: bool) -> TagRecord
+    ensures { λ r. ⌜ r ≡ recordBy keep tags byte0 n request ⌝ }
 {
     if keep {
         return TagRecord {
             fresh: false,
             tag: header::tag(byte0),
             words: n,
+            request,
         };
     }
     TagRecord {
         fresh: tags.fresh,
         tag: tags.tag,
         words: tags.words,
+        request: tags.request,
     }
 }

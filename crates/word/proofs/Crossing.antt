@@ -6,7 +6,7 @@ use mathlib.Core.List.{List, [], _∷_, _++_, append-assoc, append-nil}
 use native.Mathlib.Omega.{arith}
 use lib.Arith.{mod-mul}
 use lib.Dec.{lit<}
-use lib.ListN.{length, getD, set}
+use lib.ListN.{length, take, getD, set}
 use lib.Seq.{sets-eq}
 use native.Mathlib.Numerals.{add-one}
 use Rattle.word.specs.Words.{wordOf, fourOf, wordsOf, bytesOf, Below, Bytes, Words, put, putWords}
@@ -35,16 +35,16 @@ unfolding wordsOf
 words-back ws h = ap wordsOf (sym (append-nil (bytesOf ws))) ∙ words-bytes ws [] h ∙ append-nil ws
 
 -- the four bytes of a word of bytes
-byte0 : (a b c d : ℕ) → a < 256 → wordOf a b c d % 256 ≡ a
+pub byte0 : (a b c d : ℕ) → a < 256 → wordOf a b c d % 256 ≡ a
 byte0 a b c d h = omega arith
 
-byte1 : (a b c d : ℕ) → a < 256 → b < 256 → wordOf a b c d / 256 % 256 ≡ b
+pub byte1 : (a b c d : ℕ) → a < 256 → b < 256 → wordOf a b c d / 256 % 256 ≡ b
 byte1 a b c d h i = omega arith
 
-byte2 : (a b c d : ℕ) → a < 256 → b < 256 → c < 256 → wordOf a b c d / 65536 % 256 ≡ c
+pub byte2 : (a b c d : ℕ) → a < 256 → b < 256 → c < 256 → wordOf a b c d / 65536 % 256 ≡ c
 byte2 a b c d h i j = omega arith
 
-byte3 : (a b c d : ℕ) → a < 256 → b < 256 → c < 256 → d < 256 → wordOf a b c d / 16777216 % 256 ≡ d
+pub byte3 : (a b c d : ℕ) → a < 256 → b < 256 → c < 256 → d < 256 → wordOf a b c d / 16777216 % 256 ≡ d
 byte3 a b c d h i j k = omega arith
 
 pub bytes-back : BytesBack
@@ -61,6 +61,25 @@ bytes-back (a ∷ b ∷ c ∷ d ∷ l) h e =
       byte3 a b c d (h .0) (h .1 .0) (h .1 .1 .0) (h .1 .1 .1 .0),
       bytes-back l (h .1 .1 .1 .1) (omega arith),
     )
+
+-- the first words of bytes, as bytes
+pub front-bytes : (n : ℕ) (l : List ℕ) → Bytes l → 4 * n ≤ length l → bytesOf (take n (wordsOf l)) ≡ take (4 * n) l
+unfolding bytesOf wordsOf Below
+front-bytes zero l h k = refl
+front-bytes (suc n) (a ∷ b ∷ c ∷ d ∷ l) h k =
+    let e : 4 * suc n ≡ suc (suc (suc (suc (4 * n)))) = omega arith in
+    rw (
+      e,
+      byte0 a b c d (h .0),
+      byte1 a b c d (h .0) (h .1 .0),
+      byte2 a b c d (h .0) (h .1 .0) (h .1 .1 .0),
+      byte3 a b c d (h .0) (h .1 .0) (h .1 .1 .0) (h .1 .1 .1 .0),
+      front-bytes n l (h .1 .1 .1 .1) (omega arith),
+    )
+front-bytes (suc n) [] h k = absurd (omega arith)
+front-bytes (suc n) (a ∷ []) h k = absurd (omega arith)
+front-bytes (suc n) (a ∷ b ∷ []) h k = absurd (omega arith)
+front-bytes (suc n) (a ∷ b ∷ c ∷ []) h k = absurd (omega arith)
 
 -- the words of bytes are words, a quarter as many
 pub words-below : (l : List ℕ) → Bytes l → Words (wordsOf l)

@@ -1,7 +1,9 @@
 -- Words in bytes and runs in lists. Every contract of the project that reads or writes a word cites these. Assumes
 -- nothing.
 use Prim.Native.Nat.{ℕ, _+_, _*_, _/_, _%_, _<_}
+use mathlib.Core.Bool.{Bool, true, false, _&&_}
 use mathlib.Core.List.{List, [], _∷_, _++_}
+use lib.Dec.{eqb}
 use lib.ListN.{length, take, drop}
 
 -- "Bytes are little-endian; a word is 4 bytes": the word of four bytes, the low one first
@@ -44,6 +46,13 @@ put l at s = take at l ++ (s ++ drop (at + length s) l)
 -- the bytes l with the words ws in them from word `at` on
 unfoldable pub putWords : List ℕ → ℕ → List ℕ → List ℕ
 putWords l at ws = put l (4 * at) (bytesOf ws)
+
+-- whether two lists are the same: as long, and alike at every place
+unfoldable pub same : List ℕ → List ℕ → Bool
+same [] [] = true
+same [] (y ∷ ys) = false
+same (x ∷ xs) [] = false
+same (x ∷ xs) (y ∷ ys) = eqb x y && same xs ys
 
 -- the most words that one call copies: no count of 12 bits is larger
 abbrev pub longest : ℕ

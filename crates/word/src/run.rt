@@ -1,11 +1,13 @@
-// Runs of words: into bytes, out of bytes, and from words to words.
+// Runs of words: into bytes, out of bytes, from words to words and from bytes to bytes; and whether two are the same.
 //
 // Each copy goes by way of a local array, which the compiler drops: a loop into it and a loop out of it become one
 // memmove, where a loop from slice to slice stays a loop with a test for overlap.
 ghost use mathlib.Core.Path.{_≡_};
+ghost use mathlib.Core.Bool.{_&&_};
 ghost use Prim.Native.Nat.{_+_, _*_, _≤_};
+ghost use lib.Dec.{eqb};
 ghost use lib.ListN.{length, take, drop};
-ghost use Rattle.word.specs.Words.{wordsOf, put, putWords, longest};
+ghost use Rattle.word.specs.Words.{wordsOf, put, putWords, longest, same};
 
 // The most words that one call copies.
 pub const LONGEST: usize = 4096;
@@ -83,4 +85,42 @@ pub fn copy_words(dst: &mut [u32], to: usize, src: &[u32])
     let mut stage = [0u32; LONGEST];
     paste(&mut stage, 0, src, n);
     paste(dst, to, &stage, n);
+}
+
+// The first n words of the bytes b, to the front of the bytes out. Every other byte of out stays.
+pub fn copy_bytes(out: &mut [u8], b: &[u8], n: usize)
+    requires { ⌜ (n ≤ longest)
+        × (4 * n ≤ length (now b))
+        × (4 * n ≤ length (now out)) ⌝ }
+    ensures { λ _. ⌜ now (out .exit) ≡ put (now (out .entry)) 0 (take (4 * n) (now (b .entry))) ⌝ }
+{
+    let mut stage = [0u32; LONGEST];
+    gather(&mut stage, b, 0, n);
+    spread(out, 0, &stage, n);
+}
+
+// Whether two words are the same, and those before them were.
+fn alike(before: bool, x: u32, y: u32) -> bool
+    ensures { λ r. ⌜ r ≡ (before && eqb x y) ⌝ }
+{
+    if x == y {
+        return before;
+    }
+    false
+}
+
+// Whether the first n words of two runs of bytes are the same. The loop goes on past a difference, so that the compiler
+// compares several words at once.
+pub fn same_words(a: &[u8], b: &[u8], n: usize) -> bool
+    requires { ⌜ 4 * n ≤ length (now a) ⌝ }
+    requires { ⌜ 4 * n ≤ length (now b) ⌝ }
+    ensures { λ r. ⌜ r ≡ same (take (4 * n) (now (a .entry))) (take (4 * n) (now (b .entry))) ⌝ }
+{
+    let mut so = true;
+    let mut i = 0;
+    while i < n {
+        so = alike(so, crate::word_at(a, i), crate::word_at(b, i));
+        i += 1;
+    }
+    so
 }

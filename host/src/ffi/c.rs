@@ -18,6 +18,7 @@ pub struct TagRecord {
     pub fresh: bool,
     pub tag: u32,
     pub words: usize,
+    pub request: usize,
 }
 
 #[repr(C)]
@@ -76,30 +77,22 @@ pub struct Part {
 
 // A slice is passed as its pointer and its length.
 
-// libcontroller.a, and for comparison an earlier one, whose function `host/speed` renames
-macro_rules! serving {
-    ($call:ident) => {
-        extern "C" {
-            pub(super) fn $call(
-                memory: *mut u32,
-                memory_length: usize,
-                stored: *mut u32,
-                stored_length: usize,
-                output: *mut u8,
-                output_length: usize,
-                tags: *mut TagRecord,
-                datagram: *const u8,
-                datagram_length: usize,
-            ) -> Sent;
-        }
-    };
-}
-
-serving!(charkhavo_serve);
-#[cfg(feature = "before")]
-serving!(charkhavo_serve_before);
-
 extern "C" {
+    // libcontroller.a
+    pub(super) fn charkhavo_serve(
+        memory: *mut u32,
+        memory_length: usize,
+        kept: *mut u8,
+        kept_length: usize,
+        stored: *mut u32,
+        stored_length: usize,
+        output: *mut u8,
+        output_length: usize,
+        tags: *mut TagRecord,
+        datagram: *const u8,
+        datagram_length: usize,
+    ) -> Sent;
+
     // libloader.a
     pub(super) fn charkhavo_refusal(request: *const u8, request_length: usize) -> Refused;
     pub(super) fn charkhavo_begin(

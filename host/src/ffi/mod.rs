@@ -11,6 +11,8 @@
 
 #![allow(unsafe_code)]
 
+#[cfg(feature = "before")]
+pub mod before;
 mod c;
 
 pub use c::TagRecord;
@@ -42,39 +44,33 @@ impl Building {
     };
 }
 
-/// The controller's call: of the library and, for `timed` to compare, of an earlier one.
-macro_rules! serving {
-    ($serve:ident, $call:ident) => {
-        /// Serves one datagram: 1 to 11.
-        #[inline(always)]
-        pub fn $serve(
-            memory: &mut [u32],
-            stored: &mut [u32],
-            output: &mut [u8],
-            tags: &mut TagRecord,
-            datagram: &[u8],
-        ) -> Sent {
-            // Sound: four lent exclusively, one shared, each with its own length.
-            unsafe {
-                c::$call(
-                    memory.as_mut_ptr(),
-                    memory.len(),
-                    stored.as_mut_ptr(),
-                    stored.len(),
-                    output.as_mut_ptr(),
-                    output.len(),
-                    tags,
-                    datagram.as_ptr(),
-                    datagram.len(),
-                )
-            }
-        }
-    };
+/// Serves one datagram: 1 to 12.
+#[inline(always)]
+pub fn serve(
+    memory: &mut [u32],
+    stored: &mut [u32],
+    kept: &mut [u8],
+    output: &mut [u8],
+    tags: &mut TagRecord,
+    datagram: &[u8],
+) -> Sent {
+    // Sound: five lent exclusively, one shared, each with its own length.
+    unsafe {
+        c::charkhavo_serve(
+            memory.as_mut_ptr(),
+            memory.len(),
+            kept.as_mut_ptr(),
+            kept.len(),
+            stored.as_mut_ptr(),
+            stored.len(),
+            output.as_mut_ptr(),
+            output.len(),
+            tags,
+            datagram.as_ptr(),
+            datagram.len(),
+        )
+    }
 }
-
-serving!(serve, charkhavo_serve);
-#[cfg(feature = "before")]
-serving!(serve_before, charkhavo_serve_before);
 
 /// The refusal of a request by any controller, 2 to 10; number 0 where it is well-formed.
 pub fn refusal(request: &[u8]) -> Refused {

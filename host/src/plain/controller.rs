@@ -1,11 +1,11 @@
 //! The controller end (the completer): one call for each datagram that arrives, refusals 1
-//! to 11. The datagram is walked once, then carried out once; nothing is allocated.
+//! to 12. The datagram is walked once, then carried out once; nothing is allocated.
 
 use super::message::{self, Header, Kind, Walked, WordBytes};
 use crate::limits::{BYTES, MEMORY, WORDS};
 use crate::refusal::Refusal;
 
-/// What the controller keeps between calls besides memory and stored answer.
+/// What the controller keeps between calls besides memory, stored answer and kept request.
 #[derive(Clone, Copy, Debug, PartialEq, Eq)]
 pub struct TagRecord {
     /// No tag yet; the other fields are then not looked at.
@@ -14,12 +14,14 @@ pub struct TagRecord {
     pub tag: u32,
     /// The length of the stored answer.
     pub words: usize,
+    /// The length of the kept request, in words.
+    pub request: usize,
 }
 
 impl TagRecord {
-    /// The least length of the stored answer, and the most that `words` may say.
+    /// The least length of the stored answer, and the most that `words` and `request` may say.
     pub const WORDS: usize = WORDS;
-    /// The least length of the output.
+    /// The least length of the kept request and of the output.
     pub const BYTES: usize = BYTES;
     /// The most words of memory; the least is 1.
     pub const MEMORY: usize = MEMORY;
@@ -29,11 +31,13 @@ impl TagRecord {
     pub const TAG_STORED: u32 = 16;
 
     pub const fn fresh() -> TagRecord {
-        TagRecord { fresh: true, tag: 0, words: 0 }
+        TagRecord { fresh: true, tag: 0, words: 0, request: 0 }
     }
 
     fn is_allowed(&self) -> bool {
-        self.fresh || (self.tag <= 15 && (1..=TagRecord::WORDS).contains(&self.words))
+        let lengths = 1..=TagRecord::WORDS;
+        let held = lengths.contains(&self.words) && lengths.contains(&self.request);
+        self.fresh || (self.tag <= 15 && held)
     }
 
     /// What is to be done with a well-formed message of this header; 11 if it is out of step.
@@ -76,11 +80,12 @@ pub struct Served {
 pub fn serve(
     memory: &mut [u32],
     stored: &mut [u32],
+    kept: &mut [u8],
     output: &mut [u8],
     tags: &mut TagRecord,
     datagram: &[u8],
 ) -> Served {
-    match answer_words(memory, stored, output, tags, datagram) {
+    match answer_words(memory, stored, kept, output, tags, datagram) {
         Ok(words) => Served { refusal: Refusal::of(0), sent: 4 * words },
         Err(refusal) => Served { refusal, sent: 0 },
     }
@@ -91,30 +96,41 @@ pub fn serve(
 fn answer_words(
     memory: &mut [u32],
     stored: &mut [u32],
+    kept: &mut [u8],
     output: &mut [u8],
     tags: &mut TagRecord,
     datagram: &[u8],
 ) -> Result<usize, Refusal> {
-    if !lengths_allowed(memory, stored, output) || !tags.is_allowed() {
+    if !lengths_allowed(memory, stored, kept, output) || !tags.is_allowed() {
         return Err(Refusal::LENT);
     }
     let request = message::walk(datagram)?;
     let (output, _) = output.as_chunks_mut();
     let verdict = tags.verdict(request.first)?;
-    if verdict == Verdict::Repeat {
-        return Ok(send_again(&stored[..tags.words], output));
-    }
-    let kept = if verdict == Verdict::New { &mut stored[..request.answer] } else { &mut [] };
-    let words = carry_out(memory, &request, tags, Answer::new(&mut output[..request.answer], kept));
+    let stored = match verdict {
+        Verdict::Repeat if kept[..4 * tags.request] != *datagram => {
+            return Err(Refusal::OTHER_BYTES);
+        }
+        Verdict::Repeat => return Ok(send_again(&stored[..tags.words], output)),
+        Verdict::New => {
+            kept[..datagram.len()].copy_from_slice(datagram);
+            &mut stored[..request.answer]
+        }
+        Verdict::Discovery => &mut [],
+    };
+    let answer = Answer::new(&mut output[..request.answer], stored);
+    let words = carry_out(memory, &request, tags, answer);
     if verdict == Verdict::New {
-        *tags = TagRecord { fresh: false, tag: request.first.tag(), words };
+        let (tag, request) = (request.first.tag(), request.words.len());
+        *tags = TagRecord { fresh: false, tag, words, request };
     }
     Ok(words)
 }
 
-fn lengths_allowed(memory: &[u32], stored: &[u32], output: &[u8]) -> bool {
+fn lengths_allowed(memory: &[u32], stored: &[u32], kept: &[u8], output: &[u8]) -> bool {
     (1..=TagRecord::MEMORY).contains(&memory.len())
         && stored.len() >= TagRecord::WORDS
+        && kept.len() >= TagRecord::BYTES
         && output.len() >= TagRecord::BYTES
 }
 

@@ -56,11 +56,11 @@ pub fn true_answer(random: &mut Random, request: &[u8]) -> Vec<u8> {
     let mut memory = random.words(words);
     let tag = random.word() % 16;
     let mut tags = match Header(u32::from(request[0])).discovery() && !random.one_in(4) {
-        true => TagRecord { fresh: false, tag, words: 1 },
+        true => TagRecord { fresh: false, tag, words: 1, request: 1 },
         false => TagRecord::fresh(),
     };
-    let (mut stored, mut output) = (vec![0; WORDS], vec![0; BYTES]);
-    let served = serve(&mut memory, &mut stored, &mut output, &mut tags, request);
+    let (mut stored, mut kept, mut output) = (vec![0; WORDS], vec![0; BYTES], vec![0; BYTES]);
+    let served = serve(&mut memory, &mut stored, &mut kept, &mut output, &mut tags, request);
     output.truncate(served.sent);
     output
 }

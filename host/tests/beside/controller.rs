@@ -11,7 +11,7 @@ use charkhavo_host::random::Random;
 fn controller_calls() {
     let mut random = Random::new(SEED);
     let (mut seen, mut requests) = (Seen::default(), Seen::default());
-    let mut met = Met::default();
+    let (mut met, mut differing) = (Met::default(), Differing::default());
     for round in 0..ROUNDS {
         let given = lent(&mut random);
         let (mut ours, mut other) = (given.clone(), given.clone());
@@ -23,15 +23,19 @@ fn controller_calls() {
         assert_eq!(well_formed, Other::refusal(&given.datagram), "round {round}: {given:?}");
         requests.note(well_formed.number);
         met.note((refusal, sent), &given, &ours);
+        if refusal.number == 12 {
+            differing.note(given.request(), &given.datagram);
+        }
     }
-    seen.exactly(0..=11);
+    seen.exactly(0..=12);
     requests.exactly([0, 2, 3, 4, 5, 6, 7, 8, 9, 10]);
     met.all();
+    differing.all();
 }
 
 fn serve<E: Ends>(lent: &mut Lent) -> Given<usize> {
-    let Lent { memory, stored, output, tags, datagram } = lent;
-    E::serve(memory, stored, output, tags, datagram)
+    let Lent { memory, stored, kept, output, tags, datagram } = lent;
+    E::serve(memory, stored, kept, output, tags, datagram)
 }
 
 /// How often each way of being served came, memory was changed, a later header refused, and a
@@ -70,5 +74,44 @@ impl Met {
         let met = [new, repeats, discoveries, changes, later, full_requests, full_answers];
         println!("{met:?}");
         assert!(met.iter().all(|times| *times > 100), "{met:?}");
+    }
+}
+
+/// How often a repeat that was refused 12 differed from the kept request in each of these ways
+/// alone: longer by words behind the same ones, shorter so, its first byte, byte 1 of a read, its
+/// last byte, a byte between.
+#[derive(Default)]
+struct Differing {
+    longer: usize,
+    shorter: usize,
+    first: usize,
+    byte_1_of_a_read: usize,
+    last: usize,
+    between: usize,
+}
+
+impl Differing {
+    fn note(&mut self, request: &[u8], datagram: &[u8]) {
+        let places = 0..request.len().min(datagram.len());
+        let differ: Vec<usize> = places.filter(|at| request[*at] != datagram[*at]).collect();
+        let reads = datagram[0] >> 4 & 3 == 2;
+        let way = match differ[..] {
+            [] if datagram.len() > request.len() => &mut self.longer,
+            [] => &mut self.shorter,
+            [_] if datagram.len() != request.len() => return,
+            [0] => &mut self.first,
+            [1] if reads => &mut self.byte_1_of_a_read,
+            [at] if at + 1 == datagram.len() => &mut self.last,
+            [_] => &mut self.between,
+            _ => return,
+        };
+        *way += 1;
+    }
+
+    fn all(&self) {
+        let Differing { longer, shorter, first, byte_1_of_a_read, last, between } = *self;
+        let ways = [longer, shorter, first, byte_1_of_a_read, last, between];
+        println!("{ways:?}");
+        assert!(ways.iter().all(|times| *times > 100), "{ways:?}");
     }
 }

@@ -1,6 +1,6 @@
 //! The bench sheet of document 01, line by line.
 
-use crate::common::{at, of, Bench};
+use crate::common::{at, held, of, Bench};
 use charkhavo_host::limits::WORDS;
 use charkhavo_host::plain::TagRecord;
 
@@ -44,14 +44,14 @@ fn a_discovery_writes_and_leaves_the_record_fresh() {
 fn a_is_carried_out() {
     let bench = after_a();
     assert_eq!(bench.memory, [0, 0xFEED_C0DE, 0, 0, 0xF00D_FACE, 0, 0, 0]);
-    assert_eq!(bench.tags, TagRecord { fresh: false, tag: 0, words: 1 });
+    assert_eq!(bench.tags, held(0, 1, 3));
 }
 
 #[test]
 fn b_repeats_without_writing() {
     let bench = after_b();
     assert_eq!(bench.memory[1], 0);
-    assert_eq!(bench.tags, TagRecord { fresh: false, tag: 0, words: 1 });
+    assert_eq!(bench.tags, held(0, 1, 3));
 }
 
 #[test]
@@ -72,14 +72,14 @@ fn after_tag_15_comes_tag_0() {
     let mut bench = Bench::with_tag(15);
     assert_eq!(bench.give(&A), Ok(vec![0x8000_0030]));
     assert_eq!(bench.memory[1], 0xFEED_C0DE);
-    assert_eq!(bench.tags, TagRecord { fresh: false, tag: 0, words: 1 });
+    assert_eq!(bench.tags, held(0, 1, 3));
 }
 
 #[test]
 fn a_read_past_the_end_fails() {
     let mut bench = Bench::sheet();
     assert_eq!(bench.give(&[0x8002_0020, 0x0000_001C]), Ok(vec![0x8000_0230]));
-    assert_eq!(bench.tags, TagRecord { fresh: false, tag: 0, words: 1 });
+    assert_eq!(bench.tags, held(0, 1, 2));
 }
 
 #[test]
@@ -113,7 +113,7 @@ fn gaps_at_8_and_at_12() {
     assert_eq!(bench, Bench::sheet());
     assert_eq!(bench.give(&gapped(8)), Ok(vec![0x8000_0030]));
     assert_eq!(bench.memory, [0, 0, 0x0022_0044, 0x5500_7700, 0xF00D_FACE, 0, 0, 0]);
-    assert_eq!(bench.tags, TagRecord { fresh: false, tag: 0, words: 1 });
+    assert_eq!(bench.tags, held(0, 1, 4));
 }
 
 #[test]

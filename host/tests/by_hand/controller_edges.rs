@@ -1,6 +1,6 @@
 //! Edges that document 01 and the decided points name, at the controller.
 
-use crate::common::{words_of, Bench};
+use crate::common::{held, of, words_of, Bench};
 use charkhavo_host::limits::{BYTES, WORDS};
 use charkhavo_host::plain::TagRecord;
 
@@ -69,7 +69,7 @@ fn no_byte_enabled_is_legal_but_its_address_is_judged() {
     assert_eq!(bench.give(&[0x8001_0010, 16, 7]), Ok(vec![0x8000_0030]));
     assert_eq!(bench.memory, Bench::sheet().memory);
     assert_eq!(bench.give(&[0x8001_0011, 32, 7]), Ok(vec![0x8000_0231]));
-    assert_eq!(bench.tags, TagRecord { fresh: false, tag: 1, words: 1 }, "an Error is done");
+    assert_eq!(bench.tags, held(1, 1, 3), "an Error is done");
 }
 
 #[test]
@@ -98,7 +98,7 @@ fn reads_of_several_commands_stop_at_the_first_error() {
     let mut bench = Bench::sheet();
     let sent = bench.give(&[0x0002_0020, 16, 0x0001_0020, 33, 0x8001_0020, 16]);
     assert_eq!(sent, Ok(vec![0x0002_0030, 0xF00D_FACE, 0, 0x8000_0230]));
-    assert_eq!(bench.tags, TagRecord { fresh: false, tag: 0, words: 4 });
+    assert_eq!(bench.tags, held(0, 4, 6));
 }
 
 #[test]
@@ -109,19 +109,20 @@ fn a_read_sees_earlier_messages_and_its_repeat_does_not_see_later_ones() {
     assert_eq!(sent, Ok(vec![0x8001_0034, 5]));
     bench.give(&[0x8001_0F90, 0, 6]).unwrap();
     assert_eq!(bench.give(&[0x8001_0024, 0]), sent);
-    assert_eq!(bench.give(&[0x8001_0F14, 0, 9]), sent, "whatever the repeat's body says");
+    assert_eq!(bench.give(&[0x8001_0F14, 0, 9]), Err(of(12)), "a repeat has the same bytes");
+    assert_eq!(bench.give(&[0x8001_0024, 0]), sent);
     assert_eq!(bench.memory[0], 6);
 }
 
 #[test]
 fn a_fresh_record_takes_any_tag_and_a_discovery_keeps_its_fields() {
     for tag in 0..16 {
-        let tags = TagRecord { fresh: true, tag: 77, words: usize::MAX };
+        let tags = TagRecord { fresh: true, tag: 77, words: usize::MAX, request: usize::MAX };
         let mut bench = Bench { tags, ..Bench::sheet() };
         bench.give(&[0x8001_00A0 | tag, 0]).unwrap();
         assert_eq!(bench.tags, tags);
         bench.give(&[0x8001_0020 | tag, 0]).unwrap();
-        assert_eq!(bench.tags, TagRecord { fresh: false, tag, words: 2 });
+        assert_eq!(bench.tags, held(tag, 2, 2));
     }
 }
 
@@ -133,8 +134,12 @@ fn messages_and_answers_as_long_as_can_be() {
     write.extend((0..WORDS as u32 - 2).map(|word| word ^ 0x8888_8888));
     assert_eq!(bench.give(&write), Ok(vec![0x8000_0030]));
     assert_eq!(bench.memory[1..WORDS - 1], write[2..]);
-    let sent = bench.give(&[0x8000_0021 | (WORDS as u32 - 1) << 16, 4]).unwrap();
+    assert_eq!(bench.tags, held(0, 1, WORDS));
+    assert_eq!(bench.give(&write), Ok(vec![0x8000_0030]), "compared whole");
+    let read = [0x8000_0021 | (WORDS as u32 - 1) << 16, 4];
+    let sent = bench.give(&read).unwrap();
     assert_eq!(sent.len(), WORDS);
     assert_eq!(sent[1..], bench.memory[1..]);
-    assert_eq!(bench.give(&[0x8001_0021, 0]), Ok(sent), "repeated whole");
+    assert_eq!(bench.tags, held(1, WORDS, 2));
+    assert_eq!(bench.give(&read), Ok(sent), "repeated whole");
 }

@@ -1,6 +1,6 @@
 //! Each refusal of the controller by hand-made datagrams, and the order they come in.
 
-use crate::common::{at, bytes_of, of, Bench};
+use crate::common::{at, bytes_of, held, of, Bench};
 use charkhavo_host::limits::{BYTES, WORDS};
 use charkhavo_host::plain::TagRecord;
 use charkhavo_host::Refusal;
@@ -13,35 +13,37 @@ const READ: [u32; 2] = [0x8001_0020, 0];
 
 #[test]
 fn refusal_1_buffers() {
-    let lent = |memory, stored, output| {
+    let lent = |memory, stored, kept, output| {
         let mut bench = Bench::new(vec![0; memory]);
         bench.stored.resize(stored, 0);
+        bench.kept.resize(kept, 0);
         bench.output.resize(output, 0);
         bench.give(&READ).err()
     };
-    assert_eq!(lent(1, WORDS, BYTES), None);
-    assert_eq!(lent(16_384, WORDS, BYTES), None);
-    assert_eq!(lent(0, WORDS, BYTES), Some(of(1)));
-    assert_eq!(lent(16_385, WORDS, BYTES), Some(of(1)));
-    assert_eq!(lent(1, WORDS - 1, BYTES), Some(of(1)));
-    assert_eq!(lent(1, WORDS, BYTES - 1), Some(of(1)));
-    assert_eq!(lent(1, 0, 0), Some(of(1)));
+    assert_eq!(lent(1, WORDS, BYTES, BYTES), None);
+    assert_eq!(lent(16_384, WORDS, BYTES, BYTES), None);
+    assert_eq!(lent(0, WORDS, BYTES, BYTES), Some(of(1)));
+    assert_eq!(lent(16_385, WORDS, BYTES, BYTES), Some(of(1)));
+    assert_eq!(lent(1, WORDS - 1, BYTES, BYTES), Some(of(1)));
+    assert_eq!(lent(1, WORDS, BYTES - 1, BYTES), Some(of(1)));
+    assert_eq!(lent(1, WORDS, 0, BYTES), Some(of(1)));
+    assert_eq!(lent(1, WORDS, BYTES, BYTES - 1), Some(of(1)));
+    assert_eq!(lent(1, 0, 0, 0), Some(of(1)));
 }
 
 #[test]
 fn refusal_1_record() {
-    let with = |fresh, tag, words| {
-        let tags = TagRecord { fresh, tag, words };
-        Bench { tags, ..Bench::sheet() }.give(&[0x8001_00A0, 0]).err()
-    };
-    assert_eq!(with(false, 15, 1), None);
-    assert_eq!(with(false, 0, WORDS), None);
-    assert_eq!(with(false, 16, 1), Some(of(1)));
-    assert_eq!(with(false, u32::MAX, 1), Some(of(1)));
-    assert_eq!(with(false, 0, 0), Some(of(1)));
-    assert_eq!(with(false, 0, WORDS + 1), Some(of(1)));
-    assert_eq!(with(false, 0, usize::MAX), Some(of(1)));
-    assert_eq!(with(true, u32::MAX, usize::MAX), None, "a fresh record is not looked into");
+    let with = |tags| Bench { tags, ..Bench::sheet() }.give(&[0x8001_00A0, 0]).err();
+    assert_eq!(with(held(15, 1, 1)), None);
+    assert_eq!(with(held(0, WORDS, WORDS)), None);
+    assert_eq!(with(held(16, 1, 1)), Some(of(1)));
+    assert_eq!(with(held(u32::MAX, 1, 1)), Some(of(1)));
+    for length in [0, WORDS + 1, usize::MAX / 4 + 2, usize::MAX] {
+        assert_eq!(with(held(0, length, 1)), Some(of(1)), "an answer of {length}");
+        assert_eq!(with(held(0, 1, length)), Some(of(1)), "a request of {length}");
+        let fresh = TagRecord { fresh: true, tag: u32::MAX, words: length, request: length };
+        assert_eq!(with(fresh), None, "a fresh record is not looked into");
+    }
 }
 
 #[test]
@@ -162,13 +164,117 @@ fn refusal_10_long_answer() {
 fn refusal_11_out_of_step() {
     for stored in 0..16 {
         for tag in 0..16 {
-            let given = Bench::with_tag(stored).give(&[0x8001_0020 | tag, 0]).err();
+            let given = Bench::with_tag(stored).give(&[0x8000_0000 | tag]).err();
             let allowed = tag == stored || tag == (stored + 1) % 16;
             assert_eq!(given, (!allowed).then_some(of(11)), "stored {stored}, tag {tag}");
+            let other = Bench::with_tag(stored).give(&[0x8001_0020 | tag, 0]).err();
+            let expected = if tag == stored { Some(of(12)) } else { given };
+            assert_eq!(other, expected, "other bytes, stored {stored}, tag {tag}");
             let discovery = Bench::with_tag(stored).give(&[0x8001_00A0 | tag, 0]).err();
             assert_eq!(discovery, None);
         }
     }
+}
+
+const A: [u32; 3] = [0x8001_0F10, 0x0000_0004, 0xFEED_C0DE];
+
+/// Messages of the bench sheet's (a)'s tag with other bytes, each well-formed.
+const OTHERS: [(&str, &[u32]); 9] = [
+    ("another data word", &[0x8001_0F10, 0x0000_0004, 0]),
+    ("another first data byte", &[0x8001_0F10, 0x0000_0004, 0xFEED_C0DF]),
+    ("another last byte", &[0x8001_0F10, 0x0000_0004, 0x7EED_C0DE]),
+    ("another address", &[0x8001_0F10, 0x0000_0008, 0xFEED_C0DE]),
+    ("other enables", &[0x8001_0710, 0x0000_0004, 0xFEED_C0DE]),
+    ("byte 0 alone: a read of a wide address", &[0x8001_0F60, 0x0000_0004, 0xFEED_C0DE]),
+    ("another kind, and shorter", &[0x8001_0F20, 0x0000_0004]),
+    ("a wide address, and longer", &[0x8001_0F50, 0x0000_0004, 0, 0xFEED_C0DE]),
+    ("a second write", &[0x0001_0F10, 4, 0xFEED_C0DE, 0x8001_0F10, 8, 0xFEED_C0DE]),
+];
+
+#[test]
+fn refusal_12_other_bytes() {
+    for (what, other) in OTHERS {
+        let mut bench = Bench::sheet();
+        assert_eq!(bench.give(&A), Ok(vec![0x8000_0030]));
+        assert_eq!(bench.give(other), Err(of(12)), "{what}");
+        assert_eq!(bench.give(&A), Ok(vec![0x8000_0030]), "{what}: (a) is kept");
+        let mut bench = Bench::sheet();
+        bench.give(other).unwrap();
+        assert_eq!(bench.give(&A), Err(of(12)), "{what}, the other way");
+    }
+}
+
+#[test]
+fn refusal_12_byte_1_of_a_read_counts() {
+    let mut bench = Bench::sheet();
+    let sent = bench.give(&[0x8001_0020, 0x0000_0010]);
+    assert_eq!(sent, Ok(vec![0x8001_0030, 0xF00D_FACE]));
+    assert_eq!(bench.give(&[0x8001_1120, 0x0000_0010]), Err(of(12)));
+    assert_eq!(bench.give(&[0x8001_0020, 0x0000_0010]), sent);
+    let mut bench = Bench::sheet();
+    assert_eq!(bench.give(&[0x8001_0000, 4]), Ok(vec![0x8001_0030, BYTES as u32]));
+    assert_eq!(bench.give(&[0x8001_0000, 5]), Err(of(12)), "and what a NOP carries");
+}
+
+#[test]
+fn refusal_12_looks_at_what_was_new() {
+    let mut bench = Bench::sheet();
+    bench.give(&A).unwrap();
+    let discovery = [0x8001_0F90, 0x0000_0004, 0];
+    assert_eq!(bench.give(&discovery), Ok(vec![0x8000_00B0]));
+    assert_eq!(bench.give(&A), Ok(vec![0x8000_0030]), "a discovery is not kept");
+    assert_eq!(bench.memory[1], 0, "nor carried out again");
+    assert_eq!(bench.give(&[0x8001_0F12, 4, 0]), Err(of(11)));
+    assert_eq!(bench.give(&A), Ok(vec![0x8000_0030]), "nor is what is refused");
+    let past_the_end = [0x8001_0F11, 0x0000_0020, 7];
+    assert_eq!(bench.give(&past_the_end), Ok(vec![0x8000_0231]));
+    assert_eq!(bench.give(&past_the_end), Ok(vec![0x8000_0231]), "one that ends in Error is");
+    assert_eq!(bench.give(&[0x8001_0F11, 0x0000_0020, 8]), Err(of(12)));
+    assert_eq!(bench.give(&A), Err(of(11)), "the one before is forgotten");
+}
+
+#[test]
+fn refusal_12_comes_last() {
+    let mut bench = Bench::sheet();
+    bench.give(&A).unwrap();
+    assert_eq!(bench.give(&[0x88C3_0020, 0]), Err(of(10)));
+    assert_eq!(bench.give(&[0x8000_0F10, 4]), Err(of(7)));
+    assert_eq!(bench.give_bytes(&bytes_of(&A)[..11]), Err(of(2)));
+    assert_eq!(bench.give(&A[..2]), Err(of(3)), "the kept request, cut short");
+    assert_eq!(bench.give(&[&A[..], &[0]].concat()), Err(of(9)), "and with a word more");
+    for tag in 2..16 {
+        assert_eq!(bench.give(&[0x8001_0F10 | tag, 4, 0]), Err(of(11)), "tag {tag}");
+    }
+    bench.tags.request = 0;
+    assert_eq!(bench.give(&[0x8001_0F10, 4, 0]), Err(of(1)));
+}
+
+/// The record says how long the kept request is: what stands behind it in its buffer is nothing.
+#[test]
+fn refusal_12_by_the_length_of_the_record() {
+    let longer = [&A[..], &[7]].concat();
+    for (request, expected) in [(1, Err(of(12))), (2, Err(of(12))), (4, Err(of(12))), (3, Ok(()))] {
+        let mut bench = Bench::sheet().holding(&longer);
+        bench.tags.request = request;
+        assert_eq!(bench.give(&A).map(|_| ()), expected, "{request} words");
+    }
+    let mut bench = Bench::sheet().holding(&longer);
+    bench.tags.request = WORDS;
+    assert_eq!(bench.give(&A), Err(of(12)));
+}
+
+#[test]
+fn refusal_12_any_byte_of_the_longest_request() {
+    let mut write = vec![0x8000_FF10 | (WORDS as u32 - 2) << 16, 0];
+    write.extend((0..WORDS as u32 - 2).map(|word| word.wrapping_mul(0x9E37_79B9)));
+    let (mut bench, datagram) = (Bench::sheet().holding(&write), bytes_of(&write));
+    bench.stored[0] = 0x8000_0230;
+    for place in 0..BYTES {
+        bench.kept[place] ^= 1 << (place % 8);
+        assert_eq!(bench.give_bytes(&datagram), Err(of(12)), "byte {place}");
+        bench.kept[place] ^= 1 << (place % 8);
+    }
+    assert_eq!(bench.give_bytes(&datagram), Ok(vec![0x8000_0230]));
 }
 
 #[test]

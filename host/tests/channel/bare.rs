@@ -8,6 +8,7 @@ use std::marker::PhantomData;
 
 pub struct Bare<E> {
     stored: Vec<u32>,
+    kept: Vec<u8>,
     output: Vec<u8>,
     tags: TagRecord,
     sender: Sender,
@@ -26,6 +27,7 @@ impl<E: Ends> TwoEnds for Bare<E> {
     fn fresh() -> Bare<E> {
         Bare {
             stored: vec![0x3333_3333; WORDS],
+            kept: vec![0x66; BYTES],
             output: vec![0x44; BYTES],
             tags: TagRecord::fresh(),
             sender: E::fresh(),
@@ -39,8 +41,8 @@ impl<E: Ends> TwoEnds for Bare<E> {
     }
 
     fn serve(&mut self, memory: &mut [u32], datagram: &[u8]) -> Result<Vec<u8>, u32> {
-        let Bare { stored, output, tags, .. } = self;
-        let sent = result(E::serve(memory, stored, output, tags, datagram))?;
+        let Bare { stored, kept, output, tags, .. } = self;
+        let sent = result(E::serve(memory, stored, kept, output, tags, datagram))?;
         Ok(output[..sent].to_vec())
     }
 

@@ -38,7 +38,8 @@ impl Met {
     }
 
     /// Requests too old and cut short, answers of another tag and to discoveries, calls out of
-    /// turn; NOPs, writes and reads, the last two with Error too; the oldest copies allowed.
+    /// turn, and never 12; NOPs, writes and reads, the last two with Error too; the oldest copies
+    /// allowed.
     pub fn all(&self, too_old: usize) {
         self.refusals.exactly([2, 3, 11, 30, 33, 36]);
         self.commands.exactly([0, 10, 12, 20, 22]);

@@ -261,5 +261,5 @@ impl World {
 
 /// A record with this tag stored, for the model's advertisement.
 fn tags_of(tag: Option<u32>) -> TagRecord {
-    TagRecord { fresh: tag.is_none(), tag: tag.unwrap_or(0), words: 1 }
+    TagRecord { fresh: tag.is_none(), tag: tag.unwrap_or(0), words: 1, request: 1 }
 }

@@ -12,6 +12,7 @@ pub trait Ends {
     fn serve(
         memory: &mut [u32],
         stored: &mut [u32],
+        kept: &mut [u8],
         output: &mut [u8],
         tags: &mut TagRecord,
         datagram: &[u8],

@@ -11,15 +11,16 @@ impl Ends for Library {
     fn serve(
         memory: &mut [u32],
         stored: &mut [u32],
+        kept: &mut [u8],
         output: &mut [u8],
         tags: &mut TagRecord,
         datagram: &[u8],
     ) -> Given<usize> {
-        let TagRecord { fresh, tag, words } = *tags;
-        let mut record = ffi::TagRecord { fresh, tag, words };
-        let served = ffi::serve(memory, stored, output, &mut record, datagram);
-        let ffi::TagRecord { fresh, tag, words } = record;
-        *tags = TagRecord { fresh, tag, words };
+        let TagRecord { fresh, tag, words, request } = *tags;
+        let mut record = ffi::TagRecord { fresh, tag, words, request };
+        let served = ffi::serve(memory, stored, kept, output, &mut record, datagram);
+        let ffi::TagRecord { fresh, tag, words, request } = record;
+        *tags = TagRecord { fresh, tag, words, request };
         (refusal(served.refusal), served.sent)
     }
 

@@ -27,6 +27,11 @@ pub fn at(number: u32, word: usize) -> Refusal {
     Refusal::of(number).at_word(word)
 }
 
+/// A record that holds a tag, and the words of a stored answer and of a kept request.
+pub fn held(tag: u32, words: usize, request: usize) -> TagRecord {
+    TagRecord { fresh: false, tag, words, request }
+}
+
 pub fn words_of(bytes: &[u8]) -> Vec<u32> {
     bytes.as_chunks().0.iter().map(|word| u32::from_le_bytes(*word)).collect()
 }
@@ -36,6 +41,7 @@ pub fn words_of(bytes: &[u8]) -> Vec<u32> {
 pub struct Bench {
     pub memory: Vec<u32>,
     pub stored: Vec<u32>,
+    pub kept: Vec<u8>,
     pub output: Vec<u8>,
     pub tags: TagRecord,
 }
@@ -45,6 +51,7 @@ impl Bench {
         Bench {
             memory,
             stored: vec![0x5757_5757; WORDS + 3],
+            kept: vec![0x99; BYTES + 7],
             output: vec![0xEE; BYTES + 5],
             tags: TagRecord::fresh(),
         }
@@ -55,8 +62,16 @@ impl Bench {
         Bench::new(vec![0, 0, 0, 0, 0xF00D_FACE, 0, 0, 0])
     }
 
+    /// The same, with this tag stored, and a NOP of it kept.
     pub fn with_tag(tag: u32) -> Bench {
-        Bench { tags: TagRecord { fresh: false, tag, words: 1 }, ..Bench::sheet() }
+        Bench::sheet().holding(&[0x8000_0000 | tag])
+    }
+
+    /// The same, with these words as its kept request, and the tag that they have.
+    pub fn holding(mut self, words: &[u32]) -> Bench {
+        self.kept[..4 * words.len()].copy_from_slice(&bytes_of(words));
+        self.tags = held(words[0] & 15, 1, words.len());
+        self
     }
 
     /// Serves a datagram: the words sent, or the refusal.
@@ -66,8 +81,8 @@ impl Bench {
 
     pub fn give_bytes(&mut self, datagram: &[u8]) -> Result<Vec<u32>, Refusal> {
         let before = self.clone();
-        let Bench { memory, stored, output, tags } = self;
-        let (refusal, sent) = Ours::serve(memory, stored, output, tags, datagram);
+        let Bench { memory, stored, kept, output, tags } = self;
+        let (refusal, sent) = Ours::serve(memory, stored, kept, output, tags, datagram);
         match refusal.number {
             1 => {}
             2..=10 => assert_eq!(Ours::refusal(datagram), refusal, "the loader says the same"),
@@ -78,18 +93,23 @@ impl Bench {
             assert_eq!(*self, before, "a refusal changes nothing");
             return Err(refusal);
         }
-        self.check_kept(&before, sent);
+        self.check_left(&before, datagram, sent);
         Ok(words_of(&self.output[..sent]))
     }
 
-    /// What lies past the answer keeps what it held; an unchanged record, the stored answer.
-    fn check_kept(&self, before: &Bench, sent: usize) {
+    /// What lies past the answer, and past the request, keeps what it held; with an unchanged
+    /// record so do the stored answer and the kept request.
+    fn check_left(&self, before: &Bench, datagram: &[u8], sent: usize) {
         assert!(sent.is_multiple_of(4) && (4..=BYTES).contains(&sent));
         assert_eq!(self.output[sent..], before.output[sent..]);
-        let changed = if self.tags == before.tags { 0 } else { self.tags.words };
-        assert_eq!(self.stored[changed..], before.stored[changed..]);
-        if self.tags != before.tags {
-            assert_eq!(bytes_of(&self.stored[..changed]), self.output[..sent]);
+        if self.tags == before.tags {
+            assert!(self.stored == before.stored && self.kept == before.kept);
+            return;
         }
+        let TagRecord { words, request, .. } = self.tags;
+        assert_eq!(bytes_of(&self.stored[..words]), self.output[..sent]);
+        assert_eq!(self.stored[words..], before.stored[words..]);
+        assert_eq!(self.kept[..4 * request], *datagram);
+        assert_eq!(self.kept[4 * request..], before.kept[4 * request..]);
     }
 }

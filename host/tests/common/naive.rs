@@ -160,12 +160,14 @@ fn carried_command(
 
 /// The controller's call: refusal and length sent, everything lent as it is then.
 pub fn serve(lent: &mut Lent) -> (Wrong, usize) {
-    let Lent { memory, stored, output, tags, datagram } = lent;
+    let Lent { memory, stored, kept, output, tags, datagram } = lent;
     let lengths = !memory.is_empty()
         && memory.len() <= 16_384
         && stored.len() >= WORDS
+        && kept.len() >= 4 * WORDS
         && output.len() >= 4 * WORDS;
-    let record = tags.fresh || (tags.tag < 16 && tags.words > 0 && tags.words <= WORDS);
+    let length = |words: usize| words > 0 && words <= WORDS;
+    let record = tags.fresh || (tags.tag < 16 && length(tags.words) && length(tags.request));
     if !lengths || !record {
         return ((1, 0), 0);
     }
@@ -179,13 +181,18 @@ pub fn serve(lent: &mut Lent) -> (Wrong, usize) {
     if !discovery && !repeat && !new {
         return ((11, 0), 0);
     }
+    if repeat && !kept.iter().take(4 * tags.request).eq(datagram.iter()) {
+        return ((12, 0), 0);
+    }
     let answer = match repeat {
         true => stored[..tags.words].to_vec(),
         false => carried(&request, memory, tags),
     };
     if new {
         stored[..answer.len()].copy_from_slice(&answer);
-        *tags = TagRecord { fresh: false, tag, words: answer.len() };
+        kept.splice(..datagram.len(), datagram.iter().copied());
+        let (words, request) = (answer.len(), datagram.len() / 4);
+        *tags = TagRecord { fresh: false, tag, words, request };
     }
     let sent: Vec<u8> = answer.iter().flat_map(|word| word.to_le_bytes()).collect();
     output[..sent.len()].copy_from_slice(&sent);

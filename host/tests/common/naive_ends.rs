@@ -19,6 +19,7 @@ impl Ends for Naive {
     fn serve(
         memory: &mut [u32],
         stored: &mut [u32],
+        kept: &mut [u8],
         output: &mut [u8],
         tags: &mut TagRecord,
         datagram: &[u8],
@@ -26,6 +27,7 @@ impl Ends for Naive {
         let mut lent = Lent {
             memory: memory.to_vec(),
             stored: stored.to_vec(),
+            kept: kept.to_vec(),
             output: output.to_vec(),
             tags: *tags,
             datagram: datagram.to_vec(),
@@ -33,6 +35,7 @@ impl Ends for Naive {
         let (wrong, sent) = naive::serve(&mut lent);
         memory.copy_from_slice(&lent.memory);
         stored.copy_from_slice(&lent.stored);
+        kept.copy_from_slice(&lent.kept);
         output.copy_from_slice(&lent.output);
         *tags = lent.tags;
         (refusal(wrong), sent)

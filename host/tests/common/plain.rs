@@ -11,11 +11,12 @@ impl Ends for Plain {
     fn serve(
         memory: &mut [u32],
         stored: &mut [u32],
+        kept: &mut [u8],
         output: &mut [u8],
         tags: &mut TagRecord,
         datagram: &[u8],
     ) -> Given<usize> {
-        let served = plain::serve(memory, stored, output, tags, datagram);
+        let served = plain::serve(memory, stored, kept, output, tags, datagram);
         (served.refusal, served.sent)
     }
 

@@ -17,5 +17,5 @@ use Rattle.completer.proofs.Laws.Called.{called-by}
 pub discovery-answered : (c : Controller) (o : List ℕ) → DiscoveryAnswered c o
 unfolding answerBy
 discovery-answered c o a =
-    called-by c o discoveryBytes a Discovery (rw discovery-read (rule-finds (c .tags) discoveryByte discovery-bit))
+    called-by c o discoveryBytes a Discovery (rw (discovery-read, rule-finds (c .tags) discoveryByte discovery-bit))
     ∙ rw (asked-is discoveryBytes discoveryRequest discovery-read, discovery-quiet (c .memory), discovery-words (markOf (c .tags)) (c .memory))

@@ -18,8 +18,8 @@ of-requires c κs = search needs
 returns : tie.Need-returns
 returns c =
     let w = c .before .before in
-    let a = c .before .before .before .before .before .before .before .args in
-    over-limit (lent (a .memory .now) (a .stored .now) (a .tags)) (a .output .now) (a .got .now) (w .word-at .ensures) (c .before .if1 .taken) (c .of .ensures)
+    let a = c .before .before .before .before .before .before .before .before .args in
+    over-limit (lent (a .memory .now) (a .stored .now) (a .kept .now) (a .tags)) (a .output .now) (a .got .now) (w .word-at .ensures) (c .before .if1 .taken) (c .of .ensures)
 
 add-end : tie.Need-add-end
 add-end c = search needs
@@ -45,12 +45,16 @@ same-length-2 c = search needs
 same-length-3 : tie.Need-same-length-3
 same-length-3 c = search needs
 
+same-length-4 : tie.Need-same-length-4
+same-length-4 c = search needs
+
 returns-2 : tie.Need-returns-2
 returns-2 c =
-    let w = c .before .before .before .before .before .before .before .before .before .before .before .before in
-    let s = c .before .before .before .before .before .before .serve in
-    let a = c .before .before .before .before .before .before .before .before .before .before .before .before .before .before .before .before .before .args in
-    s .ensures ∙ within-limit (lent (a .memory .now) (a .stored .now) (a .tags)) (a .output .now) (a .got .now) (w .word-at .ensures) (c .before .before .before .before .before .before .before .before .before .before .before .if1 .left)
+    let s = c .before .before .before .before .before .before .before .before in
+    let f = s .before .before .before .before .before .before in
+    let w = f .before in
+    let a = w .before .before .before .before .before .before .args in
+    s .serve .ensures ∙ within-limit (lent (a .memory .now) (a .stored .now) (a .kept .now) (a .tags)) (a .output .now) (a .got .now) (w .word-at .ensures) (f .if1 .left)
 
 pub serve-record-spec : {M : Type 1} → statement M
 serve-record-spec =
@@ -68,4 +72,5 @@ serve-record-spec =
     same-length
     same-length-2
     same-length-3
+    same-length-4
     returns-2)

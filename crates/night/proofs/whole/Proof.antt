@@ -15,6 +15,9 @@ slice-aggregate-serve-record-2 c = search needs
 slice-aggregate-serve-record-3 : tie.Need-slice-aggregate-serve-record-3
 slice-aggregate-serve-record-3 c = search needs
 
+slice-aggregate-serve-record-4 : tie.Need-slice-aggregate-serve-record-4
+slice-aggregate-serve-record-4 c = search needs
+
 serve-record-requires : tie.Need-serve-record-requires
 serve-record-requires c κs = search needs
 
@@ -23,9 +26,10 @@ told-requires c κs = search needs
 
 returns : tie.Need-returns
 returns c =
-    let s = c .before .before .before .before .before .before .before .serve-record in
-    let after : After = left (s .result .refusal) (s .result .sent) (lent (s .last .0) (s .last .1 .0) (s .result .tags)) (s .last .1 .1 .0) in
-    let a = c .before .before .before .before .before .before .before .before .before .before .before .before .before .before .args in
+    let k = c .before .before .before .before .before .before .before .before in
+    let s = k .serve-record in
+    let after : After = left (s .result .refusal) (s .result .sent) (lent (s .last .0) (s .last .1 .0) (s .last .1 .1 .0) (s .result .tags)) (s .last .1 .1 .1 .0) in
+    let a = k .before .before .before .before .before .before .before .before .before .args in
     whole-left (controllerOf (a .night)) (a .k) (a .got .now) (a .line .now) {a = after} (s .ensures) (c .before .told .ensures)
 
 pub whole-spec : {M : Type 1} → statement M
@@ -35,6 +39,7 @@ whole-spec =
     slice-aggregate-serve-record
     slice-aggregate-serve-record-2
     slice-aggregate-serve-record-3
+    slice-aggregate-serve-record-4
     serve-record-requires
     told-requires
     returns)

@@ -1,12 +1,16 @@
 -- Records and tags in figures: computed. Assumes nothing.
 use mathlib.Core.Path.{refl}
-use Rattle.tags.specs.Record.{markOf, heldOk, recordOk, keptOk}
+use Rattle.tags.specs.Record.{markOf, wordsOk, heldOk, recordOk, keptOk}
 use Rattle.tags.specs.Rule.{repeats, expected, ruleOf}
-use Rattle.tags.specs.Examples.{verdicts, RecordsShown, MarksShown, KeepingShown, RulesShown, AllTagsShown}
+use Rattle.tags.specs.Examples.{verdicts, RecordsShown, BuffersShown, MarksShown, KeepingShown, RulesShown, AllTagsShown}
 
 pub records-shown : RecordsShown
-unfolding recordOk heldOk keptOk
-records-shown = record { least = refl; most = refl; tag = refl; none = refl; over = refl; fresh = refl; stored = refl; short = refl; longer = refl; both = refl; memory = refl }
+unfolding recordOk heldOk wordsOk
+records-shown = record { least = refl; most = refl; tag = refl; none = refl; over = refl; noRequest = refl; overRequest = refl; fresh = refl }
+
+pub buffers-shown : BuffersShown
+unfolding recordOk heldOk wordsOk keptOk
+buffers-shown = record { least = refl; short = refl; shortRequest = refl; words = refl; longer = refl; both = refl; memory = refl }
 
 pub marks-shown : MarksShown
 unfolding markOf

@@ -1,6 +1,5 @@
 -- `completer::serving::serve` meets its contract: the verdict decides. Assumes nothing.
 use mathlib.Core.Path.{sym, _∙_}
-use Rattle.message.specs.Walk.{requestOf}
 use Rattle.completer.proofs.Inner.Verdicts.{carrying, again-fits, served-carried, served-by}
 use borrow.Author.Needs.{needs}
 use Rattle.completer.proofs.serving.serve.Statement.{statement}
@@ -17,8 +16,9 @@ keeps-requires c κs = search needs
 
 act-requires : tie.Need-act-requires
 act-requires c κs =
-    let k = carrying (c .before .before .before .before .before .before .verdict-of .ensures) (sym (c .before .before .before .before .before .carries .ensures) ∙ c .before .before .before .before .if1 .taken) in
-    (k .means, k .good, record { stored = k .stored; output = k .output })
+    let f = c .before .before .before .before .before in
+    let k = carrying (f .before .before .verdict-of .ensures) (sym (f .before .carries .ensures) ∙ f .if1 .taken) in
+    (k .means, k .good, record { stored = k .stored; output = k .output }, k .room)
 
 same-length : tie.Need-same-length
 same-length c = search needs
@@ -29,22 +29,38 @@ same-length-2 c = search needs
 same-length-3 : tie.Need-same-length-3
 same-length-3 c = search needs
 
+same-length-4 : tie.Need-same-length-4
+same-length-4 c = search needs
+
 returns : tie.Need-returns
-returns c = served-carried _ _ _ (c .before .before .before .before .before .before .before .before .before .before .before .before .before .verdict-of .ensures) (sym (c .before .before .before .before .before .before .before .before .before .before .before .before .carries .ensures) ∙ c .before .before .before .before .before .before .before .before .before .before .before .if1 .taken) (c .before .before .before .before .before .before .before .keeps .ensures) (c .before .before .before .before .before .before .act .ensures)
+returns c =
+    let a = c .before .before .before .before .before .before .before .before in
+    let f = a .before .before .before .before .before .before in
+    served-carried _ _ _ (f .before .before .verdict-of .ensures) (sym (f .before .carries .ensures) ∙ f .if1 .taken) (a .before .keeps .ensures) (a .act .ensures)
 
 settle-requires : tie.Need-settle-requires
 settle-requires c κs =
-    let k = again-fits _ (c .before .before .before .before .before .before .before .before .before .args .datagram .now) _ (c .before .before .before .before .verdict-of .ensures) in
-    (sym (c .before .before .before .carries .ensures) ∙ c .before .before .if1 .left, k .most, k .stored, k .output)
-
-same-length-4 : tie.Need-same-length-4
-same-length-4 c = search needs
+    let f = c .before .before in
+    let v = f .before .before in
+    let s = v .before .before .before .before .before .before .before in
+    let k = again-fits _ (s .args .kept .now) (s .args .datagram .now) _ (v .verdict-of .ensures) in
+    (sym (f .before .carries .ensures) ∙ f .if1 .left, k .most, k .stored, k .output)
 
 same-length-5 : tie.Need-same-length-5
 same-length-5 c = search needs
 
+same-length-6 : tie.Need-same-length-6
+same-length-6 c = search needs
+
+same-length-7 : tie.Need-same-length-7
+same-length-7 c = search needs
+
 returns-2 : tie.Need-returns-2
-returns-2 c = served-by _ _ _ (c .before .before .before .before .before .before .before .verdict-of .ensures) (c .before .before .settle .ensures (c .before .before .before .before .before .before .before .before .before .before .before .before .args .memory .now) (requestOf (c .before .before .before .before .before .before .before .before .before .before .before .before .args .datagram .now)))
+returns-2 c =
+    let t = c .before .before in
+    let v = t .before .before .before .before .before in
+    let s = v .before .before .before .before .before .before .before in
+    served-by _ _ _ (v .verdict-of .ensures) (t .settle .ensures (s .args .memory .now) (s .args .kept .now) (s .args .datagram .now))
 
 pub serve-spec : {M : Type 1} → statement M
 serve-spec =
@@ -57,8 +73,10 @@ serve-spec =
     same-length
     same-length-2
     same-length-3
+    same-length-4
     returns
     settle-requires
-    same-length-4
     same-length-5
+    same-length-6
+    same-length-7
     returns-2)

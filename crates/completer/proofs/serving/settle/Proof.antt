@@ -31,7 +31,7 @@ same-length c = search needs
 returns : tie.Need-returns
 returns c =
     let a = c .before .before .before .before .before .before .before .before .before in
-    λ m q. settled (a .args .verdict) (a .args .stored .now) (a .args .output .now) m q (a .pre .0) (c .before .before .before .before .before .before .again .ensures) (c .refusal-of .ensures) (sent-again (a .args .output .now) (a .args .stored .now) (c .before .before .before .before .before .before .again .result) (c .before .before .before .put-words .ensures))
+    λ m kept dg. settled (a .args .verdict) (a .args .stored .now) (a .args .output .now) m kept dg (a .pre .0) (c .before .before .before .before .before .before .again .ensures) (c .refusal-of .ensures) (sent-again (a .args .output .now) (a .args .stored .now) (c .before .before .before .before .before .before .again .result) (c .before .before .before .put-words .ensures))
 
 pub settle-spec : {M : Type 1} → statement M
 settle-spec =

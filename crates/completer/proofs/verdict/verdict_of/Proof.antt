@@ -26,12 +26,12 @@ returns-2 : tie.Need-returns-2
 unfolding verdictBy
 returns-2 c = simp (c .of2 .ensures, flag-on (c .before .before .before .before .lent-ok .ensures) (c .before .before .before .if1 .left), flag-off (c .before .before .kept-ok .ensures) (c .before .if2 .taken))
 
-judge-requires : tie.Need-judge-requires
-judge-requires c κs = kept-room _ _ (flag-on (c .before .kept-ok .ensures) (c .if2 .left)) .1
+hold-requires : tie.Need-hold-requires
+hold-requires c κs = let k = kept-room _ _ _ (flag-on (c .before .kept-ok .ensures) (c .if2 .left)) in (k .good, k .kept)
 
 returns-3 : tie.Need-returns-3
 unfolding verdictBy
-returns-3 c = simp (flag-on (c .before .before .before .before .lent-ok .ensures) (c .before .before .before .if1 .left), flag-on (c .before .before .kept-ok .ensures) (c .before .if2 .left)) (c .judge .ensures)
+returns-3 c = simp (flag-on (c .before .before .before .before .lent-ok .ensures) (c .before .before .before .if1 .left), flag-on (c .before .before .kept-ok .ensures) (c .before .if2 .left)) (c .hold .ensures)
 
 pub verdict-of-spec : {M : Type 1} → statement M
 verdict-of-spec =
@@ -43,5 +43,5 @@ verdict-of-spec =
     kept-ok-requires
     of-requires-2
     returns-2
-    judge-requires
+    hold-requires
     returns-3)

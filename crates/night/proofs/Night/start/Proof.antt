@@ -1,7 +1,7 @@
--- `night::Night::start` meets its contract: zero words, zeros stored, a fresh record. Assumes nothing.
+-- `night::Night::start` meets its contract: zero words, zeros stored and kept, a fresh record. Assumes nothing.
 use mathlib.Core.Path.{ap}
 use lib.ListN.{replicate}
-use Rattle.header.specs.Limits.{limit}
+use Rattle.header.specs.Limits.{limit, limitBytes}
 use Rattle.tags.specs.declared.record.TagRecord.{TagRecord}
 use Rattle.completer.specs.Controller.{lent}
 use Rattle.night.specs.Night.{memoryWords, atFirst}
@@ -14,7 +14,7 @@ fresh-requires c κs = search needs
 
 returns : tie.Need-returns
 unfolding atFirst
-returns c = ap (λ (t : TagRecord). lent (replicate memoryWords 0) (replicate limit 0) t) (c .fresh .ensures)
+returns c = ap (λ (t : TagRecord). lent (replicate memoryWords 0) (replicate limit 0) (replicate limitBytes 0) t) (c .fresh .ensures)
 
 pub start-spec : {M : Type 1} → statement M
 start-spec = tie.close (tie.spec fresh-requires returns)
