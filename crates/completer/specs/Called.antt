@@ -3,7 +3,8 @@
 use Prim.Native.Nat.{ℕ}
 use mathlib.Core.Path.{_≡_}
 use mathlib.Core.Bool.{Bool, true, false, _&&_}
-use mathlib.Core.List.{List}
+use mathlib.Core.Logic.{_⊎_}
+use mathlib.Core.List.{List, [], _∷_, _++_}
 use lib.ListN.{length, take}
 use Rattle.word.specs.Words.{bytesOf, Bytes}
 use Rattle.header.specs.declared.refusal.Refusal.{Refusal}
@@ -86,14 +87,21 @@ DiscoveryKeeps c o dg = verdictOf c o dg ≡ Discovery → Stays c (after c o dg
 abbrev pub DiscoveryAnswered : Controller → List ℕ → Type 0
 DiscoveryAnswered c o = allowed c o ≡ true → after c o discoveryBytes ≡ sends 3 (discoveryAnswer (markOf (c .tags))) c o
 
--- [7] what is stored is the answer that the kept request got, when it was carried out over some earlier controller's
--- memory and record. A fresh controller stores nobody's, and no call, of whatever bytes, changes that it is so.
-pub record Owned (c : Controller) : Type 0 where
-  pub earlier : Controller
-  pub answer : take (c .tags .words) (c .stored) ≡ answerBy earlier (requestOf (requestIn (c .kept) (c .tags)))
+-- [7] calls one after another, of an output and a datagram each, whatever they are
+abbrev pub served : Controller → List (List ℕ × List ℕ) → Controller
+served c [] = c
+served c (call ∷ calls) = served (after c (call .0) (call .1) .controller) calls
 
-abbrev pub StoredIsOwn : Controller → Type 0
-StoredIsOwn c = c .tags .fresh ≡ false → Owned c
+-- what is kept is the last new message of these calls, and what is stored the answer that it got in its call
+pub record LastNew (c : Controller) (calls : List (List ℕ × List ℕ)) (d : Controller) : Type 0 where
+  pub before : List (List ℕ × List ℕ)
+  pub call : List ℕ × List ℕ
+  pub behind : List (List ℕ × List ℕ)
+  pub are : calls ≡ before ++ (call ∷ behind)
+  pub new : verdictOf (served c before) (call .0) (call .1) ≡ New
+  pub kept : requestIn (d .kept) (d .tags) ≡ call .1
+  pub stored : take (d .tags .words) (d .stored) ≡ answerBy (served c before) (requestOf (call .1))
 
-abbrev pub OwnStays : Controller → List ℕ → List ℕ → Type 0
-OwnStays c o dg = StoredIsOwn c → StoredIsOwn (after c o dg .controller)
+-- or there was none, and record, stored answer and kept request are as they were
+abbrev pub OwnAnswer : Controller → List (List ℕ × List ℕ) → Type 0
+OwnAnswer c calls = LastNew c calls (served c calls) ⊎ Stays c (served c calls)

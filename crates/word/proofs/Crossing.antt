@@ -7,7 +7,7 @@ use native.Mathlib.Omega.{arith}
 use lib.Arith.{mod-mul}
 use lib.Dec.{lit<}
 use lib.ListN.{length, take, getD, set}
-use lib.Seq.{sets-eq}
+use lib.Seq.{sets-eq, take-all}
 use native.Mathlib.Numerals.{add-one}
 use Rattle.word.specs.Words.{wordOf, fourOf, wordsOf, bytesOf, Below, Bytes, Words, put, putWords}
 use Rattle.word.specs.Promises.{WordsBack, BytesBack}
@@ -47,21 +47,6 @@ byte2 a b c d h i j = omega arith
 pub byte3 : (a b c d : ℕ) → a < 256 → b < 256 → c < 256 → d < 256 → wordOf a b c d / 16777216 % 256 ≡ d
 byte3 a b c d h i j k = omega arith
 
-pub bytes-back : BytesBack
-unfolding bytesOf wordsOf Below
-bytes-back [] h e = refl
-bytes-back (a ∷ []) h e = absurd (omega arith)
-bytes-back (a ∷ b ∷ []) h e = absurd (omega arith)
-bytes-back (a ∷ b ∷ c ∷ []) h e = absurd (omega arith)
-bytes-back (a ∷ b ∷ c ∷ d ∷ l) h e =
-    rw (
-      byte0 a b c d (h .0),
-      byte1 a b c d (h .0) (h .1 .0),
-      byte2 a b c d (h .0) (h .1 .0) (h .1 .1 .0),
-      byte3 a b c d (h .0) (h .1 .0) (h .1 .1 .0) (h .1 .1 .1 .0),
-      bytes-back l (h .1 .1 .1 .1) (omega arith),
-    )
-
 -- the first words of bytes, as bytes
 pub front-bytes : (n : ℕ) (l : List ℕ) → Bytes l → 4 * n ≤ length l → bytesOf (take n (wordsOf l)) ≡ take (4 * n) l
 unfolding bytesOf wordsOf Below
@@ -97,6 +82,12 @@ length-wordsOf (a ∷ []) = refl
 length-wordsOf (a ∷ b ∷ []) = refl
 length-wordsOf (a ∷ b ∷ c ∷ []) = refl
 length-wordsOf (a ∷ b ∷ c ∷ d ∷ l) = omega (arith, length-wordsOf l)
+
+pub bytes-back : BytesBack
+bytes-back l h e =
+    let n : 4 * (length l / 4) ≡ length l = omega arith in
+    ap bytesOf (sym (take-all (length l / 4) (wordsOf l) (omega (arith, length-wordsOf l)))) ∙ front-bytes (length l / 4) l h (omega arith)
+    ∙ rw n (take-all (length l) l (omega arith))
 
 -- the bytes of words are bytes
 pub bytes-below : (ws : List ℕ) → Bytes (bytesOf ws)

@@ -1,8 +1,9 @@
 -- The promises of a call: who changes what, and what is sent. Whoever stands above `serve` cites these. Assumes nothing.
 use Prim.Native.Nat.{ℕ, _*_, _/_, _≤_}
-use mathlib.Core.Path.{_≡_, refl, sym, ap, _∙_}
+use mathlib.Core.Path.{_≡_, refl, sym, ap, subst, _∙_}
 use mathlib.Core.Bool.{Bool, true, false, cond, _&&_, and-eq-true-iff, false≢true}
-use mathlib.Core.List.{List}
+use mathlib.Core.Logic.{inl, inr}
+use mathlib.Core.List.{List, [], _∷_}
 use native.Mathlib.Omega.{arith}
 use borrow.Author.Tests.{le-ltb, le-leb}
 use lib.ListN.{length, take}
@@ -29,7 +30,7 @@ use Rattle.completer.specs.Controller.{Controller, requestIn, After}
 use Rattle.completer.specs.Verdict.{lentOk, judged, asKept, heldTo, verdictBy, verdictOf}
 use Rattle.completer.specs.Serving.{answerBy, afterBy, after}
 use Rattle.completer.specs.Settling.{refusalOf}
-use Rattle.completer.specs.Called.{Unchanged, RefusalKeeps, allowed, RefusedWhere, OtherBytes, TwelveExactly, StoredIsOwn, OwnStays, NewStores, RepeatSends, DiscoveryKeeps}
+use Rattle.completer.specs.Called.{Unchanged, RefusalKeeps, allowed, RefusedWhere, OtherBytes, TwelveExactly, Stays, served, LastNew, OwnAnswer, NewStores, RepeatSends, DiscoveryKeeps}
 use Rattle.completer.proofs.Inner.Verdicts.{one, carrying, again-fits, repeat-same}
 
 -- where something lent is not allowed, whatever the datagram is
@@ -208,19 +209,69 @@ module _ (c : Controller) (o dg : List ℕ) where
           let f = ap (λ (y : After). y .refusal .number) (called-by c o dg a v refl) ∙ ap (λ (y : Refusal). y .number) (by-verdict c o dg v) in
           (a, read-as b (read dg) refl (sym f ∙ e))
 
--- what is stored stays the kept request's own answer
-pub own-stays : (c : Controller) (o dg : List ℕ) → OwnStays c o dg
-unfolding after
-own-stays c o dg own = go (verdictOf c o dg) refl
+-- what one call makes of record, stored answer and kept request, and what they are behind it
+module _ (c : Controller) (call : List ℕ × List ℕ) (calls : List (List ℕ × List ℕ)) where
+  abbrev next : Controller
+  next = after c (call .0) (call .1) .controller
+
+  by-call : (v : Verdict) → verdictOf c (call .0) (call .1) ≡ v → next ≡ afterBy v c (call .0) (call .1) .controller
+  unfolding after
+  by-call v e = ap (λ (u : Verdict). afterBy u c (call .0) (call .1) .controller) e
+
+  -- a call that is not new leaves all three
+  not-new : (v : Verdict) → verdictOf c (call .0) (call .1) ≡ v → (v ≡ New → ⊥) → Stays c next
+  not-new v e h = subst (λ (d : Controller). Stays c d) (sym (by-call v e)) (go v h)
+    where
+      go : (u : Verdict) → (u ≡ New → ⊥) → Stays c (afterBy u c (call .0) (call .1) .controller)
+      go (Refused r) n = record { tags = refl; stored = refl; kept = refl }
+      go New n = absurd (n refl)
+      go Repeat n = record { tags = refl; stored = refl; kept = refl }
+      go Discovery n = record { tags = refl; stored = refl; kept = refl }
+
+  -- a new one is the last, if they stay behind it
+  is-last : verdictOf c (call .0) (call .1) ≡ New → (d : Controller) → Stays next d → LastNew c (call ∷ calls) d
+  is-last e d s =
+      let n = new-stores c (call .0) (call .1) e in
+      record {
+        before = [];
+        call = call;
+        behind = calls;
+        are = refl;
+        new = e;
+        kept = rw (s .kept, s .tags) (n .kept);
+        stored = rw (s .stored, s .tags) (n .stored);
+      }
+
+-- they stay over two steps
+stays-on : {c d e : Controller} → Stays c d → Stays d e → Stays c e
+stays-on p q = record { tags = q .tags ∙ p .tags; stored = q .stored ∙ p .stored; kept = q .kept ∙ p .kept }
+
+pub own-answer : (c : Controller) (calls : List (List ℕ × List ℕ)) → OwnAnswer c calls
+own-answer c [] = inr (record { tags = refl; stored = refl; kept = refl })
+own-answer c (call ∷ calls) = go (own-answer (next c call calls) calls)
   where
-    go : (v : Verdict) → verdictOf c o dg ≡ v → StoredIsOwn (afterBy v c o dg .controller)
-    go (Refused r) e = own
-    go Repeat e = own
-    go Discovery e = λ f. let w = own f in record { earlier = w .earlier; answer = w .answer }
-    go New e =
-        λ f.
-        let n = new-kept c o dg e in
-        record { earlier = c; answer = put-front (c .stored) (answerBy c (requestOf dg)) ∙ ap (λ (l : List ℕ). answerBy c (requestOf l)) (sym n) }
+    d : Controller
+    d = served c (call ∷ calls)
+
+    by : (v : Verdict) → verdictOf c (call .0) (call .1) ≡ v → Stays (next c call calls) d → OwnAnswer c (call ∷ calls)
+    by New e s = inl (is-last c call calls e d s)
+    by (Refused r) e s = inr (stays-on (not-new c call calls (Refused r) e (λ q. let n : _≡_ {A = ℕ} 0 1 = cc in omega arith)) s)
+    by Repeat e s = inr (stays-on (not-new c call calls Repeat e (λ q. let n : _≡_ {A = ℕ} 0 1 = cc in omega arith)) s)
+    by Discovery e s = inr (stays-on (not-new c call calls Discovery e (λ q. let n : _≡_ {A = ℕ} 0 1 = cc in omega arith)) s)
+
+    go : OwnAnswer (next c call calls) calls → OwnAnswer c (call ∷ calls)
+    go (inl l) =
+        inl
+        (record {
+          before = call ∷ l .before;
+          call = l .call;
+          behind = l .behind;
+          are = ap (λ (r : List (List ℕ × List ℕ)). call ∷ r) (l .are);
+          new = l .new;
+          kept = l .kept;
+          stored = l .stored;
+        })
+    go (inr s) = by (verdictOf c (call .0) (call .1)) refl s
 
 -- what is lent passes check 1
 pub lent-fits : (memory output : ℕ) → 1 ≤ memory → memory ≤ mostMemory → limitBytes ≤ output → lentOk memory output ≡ true
