@@ -2,7 +2,7 @@
  *
  * libcontroller.a is the brake and hoist controller's end: one call for each datagram that
  * arrives, charkhavo_serve. libloader.a is the cold-start loader's end: all other calls, which
- * build a message, send it until its answer is accepted, and tell what the answer says. Either
+ * build messages, send up to four until their answers are accepted, and tell what these say. Either
  * may be linked without the other; from elsewhere they need memmove alone, on 32-bit Arm also memcpy
  * and, on armv7a, a division (host/README.md).
  *
@@ -22,8 +22,8 @@
  * No call keeps a pointer, allocates, locks or waits, and there is no state but what is lent:
  * calls on different buffers may run at the same time.
  *
- * A word is 4 bytes, little-endian in messages. Words of memory, stored answer and payload are
- * the machine's own numbers; a request is kept as the bytes that came. */
+ * A word is 4 bytes, little-endian in messages. Words of memory, stored answers and payload are
+ * the machine's own numbers; requests are kept as the bytes that came. */
 #ifndef CHARKHAVO_H
 #define CHARKHAVO_H
 
@@ -36,11 +36,19 @@ extern "C" {
 
 /* Limits. */
 
-/* the most words of a message or an answer; the least length of the stored answer */
+/* the most words of a message or an answer */
 #define CHARKHAVO_WORDS 2243
-/* the same in bytes: the most of a datagram, the least length of the kept request and of an
-   output */
+/* the same in bytes: the most of a datagram, the least length of an output */
 #define CHARKHAVO_BYTES (4 * CHARKHAVO_WORDS)
+/* the most messages that a controller holds, and that wait at a sender. A message's place is its tag
+   modulo this: up to four tags in a row have places of their own */
+#define CHARKHAVO_PLACES 4
+/* the least length of the stored answers, in words: that of place p stands from word
+   CHARKHAVO_WORDS * p on */
+#define CHARKHAVO_STORED_WORDS (CHARKHAVO_PLACES * CHARKHAVO_WORDS)
+/* the least length of the kept requests, in bytes: that of place p stands from byte
+   CHARKHAVO_BYTES * p on */
+#define CHARKHAVO_KEPT_BYTES (CHARKHAVO_PLACES * CHARKHAVO_BYTES)
 /* the most words of memory; the least is 1 */
 #define CHARKHAVO_MEMORY_WORDS 16384
 
@@ -65,8 +73,8 @@ extern "C" {
 
 /* Turned away by the controller; of a request 2 to 10. */
 
-/* memory, stored answer, kept request or output has a forbidden length, or the record is not fresh
-   and not (tag 0 to 15, both lengths 1 to CHARKHAVO_WORDS) */
+/* memory, stored answers, kept requests or output has a forbidden length, or the record is not fresh
+   and not (one to four held, newest tag 0 to 15, both lengths of each held 1 to CHARKHAVO_WORDS) */
 #define CHARKHAVO_REFUSED_LENT UINT32_C(1)
 /* 0 bytes, not a multiple of 4, or over CHARKHAVO_BYTES */
 #define CHARKHAVO_REFUSED_LENGTH UINT32_C(2)
@@ -86,9 +94,10 @@ extern "C" {
 #define CHARKHAVO_REFUSED_AFTER_LAST UINT32_C(9)
 /* the answer with all commands OK would pass CHARKHAVO_WORDS words */
 #define CHARKHAVO_REFUSED_LONG_ANSWER UINT32_C(10)
-/* out of step (discovery clear) */
+/* out of step (discovery clear): the tag is neither held nor the next, which is 0 for a fresh
+   record */
 #define CHARKHAVO_REFUSED_OUT_OF_STEP UINT32_C(11)
-/* a repeat whose bytes differ from the kept request */
+/* a repeat whose bytes differ from the kept request of its tag */
 #define CHARKHAVO_REFUSED_OTHER_BYTES UINT32_C(12)
 
 /* Building a message; the lowest number first. */
@@ -110,8 +119,8 @@ extern "C" {
 
 /* sending or taking an answer while none waits */
 #define CHARKHAVO_REFUSED_NONE_WAITS UINT32_C(30)
-/* request would be refused 2 to 10, has the discovery bit, or its tag is not the next tag (that of
-   the waiting message while one waits) */
+/* request would be refused 2 to 10, has the discovery bit, or its tag is not (offering) the one after
+   the newest, or (sending, taking) that of a waiting message not yet answered */
 #define CHARKHAVO_REFUSED_REQUEST UINT32_C(31)
 /* answer length 0, not a multiple of 4, or over CHARKHAVO_BYTES */
 #define CHARKHAVO_REFUSED_ANSWER_LENGTH UINT32_C(32)
@@ -122,10 +131,10 @@ extern "C" {
 #define CHARKHAVO_REFUSED_ANSWER_HEADER UINT32_C(34)
 /* a header or body past the end, LAST missing or early, or words after it */
 #define CHARKHAVO_REFUSED_ANSWER_END UINT32_C(35)
-/* offering while one waits */
-#define CHARKHAVO_REFUSED_ONE_WAITS UINT32_C(36)
-/* sender record's next tag over 15 */
-#define CHARKHAVO_REFUSED_NEXT_TAG UINT32_C(37)
+/* offering while four wait */
+#define CHARKHAVO_REFUSED_FOUR_WAIT UINT32_C(36)
+/* sender record's next tag over 15, or more than four waiting */
+#define CHARKHAVO_REFUSED_SENDER UINT32_C(37)
 /* discovery status not OK, or word 1 has bits above 4 set, or bit 4 clear and a tag nonzero */
 #define CHARKHAVO_REFUSED_DISCOVERY UINT32_C(38)
 
@@ -141,14 +150,16 @@ typedef struct CharkhavoRefusal {
 
 /* The controller: libcontroller.a. */
 
-/* What the controller keeps between calls beside memory, stored answer and kept request. Fresh: no
-   tag is stored, any is new, and the other three fields are not looked at. A controller starts with
-   {true, 0, 0, 0}. */
+/* What the controller keeps between calls beside memory, stored answers and kept requests: it holds
+   the last messages that were new, four at most. Their tags go back from the newest by one, modulo
+   16. A place that is not held is not looked at; with none held (fresh) nothing else is. A
+   controller starts with {0}. A record that was kept by firmware with another layout is none of
+   these: after an update start both ends anew. */
 typedef struct CharkhavoTagRecord {
-    bool fresh;
-    uint32_t tag;      /* of the last new message, 0 to 15 */
-    uint64_t words;    /* of the stored answer, 1 to CHARKHAVO_WORDS */
-    uint64_t request;  /* words of the kept request, 1 to CHARKHAVO_WORDS */
+    uint32_t held;                       /* how many, 0 (fresh) to CHARKHAVO_PLACES */
+    uint32_t tag;                        /* of the newest, 0 to 15 */
+    uint32_t words[CHARKHAVO_PLACES];    /* of each place's answer, 1 to CHARKHAVO_WORDS */
+    uint32_t request[CHARKHAVO_PLACES];  /* words of each place's request, likewise */
 } CharkhavoTagRecord;
 
 /* What serving comes to: the first `sent` bytes of the output are to be sent, 0 with a refusal. */
@@ -157,19 +168,21 @@ typedef struct CharkhavoSent {
     uint64_t sent;
 } CharkhavoSent;
 
-/* Serves one datagram. A new message is carried out upon memory, its tag and answer are stored,
-   its bytes are kept; a repeat gets the stored answer again; a discovery is carried out, and tag,
-   stored answer and kept request stay. Refusals: 1, 2, then at each header 3 (no word there), 4 to
-   7, 3 (address words missing), 8, 3 (data missing), 9; then 10, 11, 12. Output bytes past those
-   sent, stored words past the new answer and kept bytes past the new request keep what they held.
-   Lengths of memory, stored answer and payloads are in words, all others in bytes.
+/* Serves one datagram. A new message, whose tag is the one after the newest (0 if fresh), is carried
+   out upon memory; it is then the newest held, its answer is stored and its bytes are kept at its
+   place. A repeat, of any held tag, gets the answer stored at its place again. A discovery is carried
+   out, and record, stored answers and kept requests stay. Refusals: 1, 2, then at each header 3 (no
+   word there), 4 to 7, 3 (address words missing), 8, 3 (data missing), 9; then 10, 11, 12. Output
+   bytes past those sent keep what they held, and so do, at that place, words past the new answer and
+   bytes past the new request, and all other places. Lengths of memory, stored answers and payloads
+   are in words, all others in bytes.
 
-   `kept` holds the bytes of the last new message from call to call; a repeat has the same, else 12.
-   It must be another buffer than `output`; both are uint8_t *, so no compiler tells them apart.
+   `kept` holds the bytes of the held messages from call to call; a repeat has the same, else 12. It
+   must be another buffer than `output`; both are uint8_t *, so no compiler tells them apart.
 
-   Record, stored answer and kept request belong together: over a reset keep all three or none, with
-   a fresh record. After a reset within the call keep none. A controller that comes up fresh takes
-   any tag as new: nothing sent before may arrive any more, and its loader starts anew too. */
+   Record, stored answers and kept requests belong together: over a reset keep all three or none,
+   with a fresh record. After a reset within the call keep none. A controller that comes up fresh
+   takes only tag 0: nothing sent before may arrive any more, and its loader starts anew too. */
 CharkhavoSent charkhavo_serve(uint32_t *memory, uint64_t memory_length,
                               uint8_t *kept, uint64_t kept_length,
                               uint32_t *stored, uint64_t stored_length,
@@ -225,35 +238,50 @@ CharkhavoRefusal charkhavo_add(uint8_t *output, uint64_t output_length,
 CharkhavoRefusal charkhavo_close(uint8_t *output, uint64_t output_length,
                                  CharkhavoBuilding *building);
 
-/* The fixed discovery, which asks a controller for its stored tag. */
+/* The fixed discovery, which asks a controller for its newest tag. */
 typedef struct CharkhavoDiscovery {
     uint8_t bytes[12];
 } CharkhavoDiscovery;
 
 CharkhavoDiscovery charkhavo_discovery(void);
 
-/* The sender. At most one message waits; it stays the caller's and is lent to each call, the same
-   bytes until its answer is accepted. */
+/* The sender. Up to four messages wait, their tags one after another. The sender keeps no bytes: a
+   call is lent one message. Keep a message unchanged from its offer on, and its answer from its take
+   on, until `ended` has counted it and you have asked its outcome; tag modulo 4 is a slot of its own
+   for each that waits. A controller takes messages in order of tag only, so that one that arrives
+   too early has to be sent again; a message that is answered before an older one waits on until that
+   one ends, so that messages end in order of tag. */
 typedef struct CharkhavoSender {
-    uint32_t next;  /* the tag of the next message, or of the waiting one while one waits */
-    bool waits;
+    uint8_t next;     /* the tag of the oldest that waits; where none waits, of the one to offer */
+    uint8_t waiting;  /* how many wait, 0 to CHARKHAVO_PLACES */
+    bool second;      /* whether the second oldest is answered; not looked at if it does not wait */
+    bool third;       /* the same of the third */
+    bool fourth;      /* the same of the fourth */
 } CharkhavoSender;
 
-/* What a sender's call comes to: its refusal, and the sender to go on with. */
+/* What an offer or a discovery comes to: its refusal, and the sender to go on with. */
 typedef struct CharkhavoMoved {
     CharkhavoRefusal refusal;
     CharkhavoSender sender;
 } CharkhavoMoved;
 
+/* What taking an answer comes to: the same, and how many messages ended, the oldest first. */
+typedef struct CharkhavoTaken {
+    CharkhavoRefusal refusal;
+    CharkhavoSender sender;
+    uint8_t ended;
+} CharkhavoTaken;
+
 /* The sender of a fresh pair: next tag 0, nothing waits. */
 CharkhavoSender charkhavo_fresh(void);
 
-/* The sender that an answer to the fixed discovery makes: its next tag is the stored one plus 1,
-   modulo 16, or 0 if none is stored. Refusals: 32, 33, then 34 and 35 at each header, 38, with a
+/* The sender that an answer to the fixed discovery makes: its next tag is the newest held plus 1,
+   modulo 16, or 0 if none is held. Refusals: 32, 33, then 34 and 35 at each header, 38, with a
    sender of next tag 16, which every later call refuses by 37. */
 CharkhavoMoved charkhavo_discovered(const uint8_t *answer, uint64_t answer_length);
 
-/* Offers a message, which then waits. Refusals: 37, 36, 31, with the sender as it was. */
+/* Offers a message, which then waits; it has the tag after the newest that waits, next + waiting
+   modulo 16. Refusals: 37, 36, 31, with the sender as it was. */
 CharkhavoMoved charkhavo_offer(CharkhavoSender sender,
                                const uint8_t *message, uint64_t message_length);
 
@@ -263,14 +291,18 @@ typedef struct CharkhavoSending {
     uint64_t length;
 } CharkhavoSending;
 
-/* Whether the waiting message may go out; any number of times. Refusals: 37, 30, 31. */
+/* Whether this message, which waits and is not answered, may go out: any number of times, and the
+   messages in any order. Refusals: 37, 30, 31. */
 CharkhavoSending charkhavo_send(CharkhavoSender sender,
                                 const uint8_t *message, uint64_t message_length);
 
-/* Takes an answer to the waiting message. Accepted, it ends the message, also when a command
-   failed, and the next tag is one more, modulo 16. Refusals: 37, 30, 31, 32, 33, then 34 and 35 at
-   each header, with the sender as it was. */
-CharkhavoMoved charkhavo_take(CharkhavoSender sender,
+/* Takes an answer to this message, which waits and is not answered: the one whose tag the answer
+   has, bits 3:0 of its first byte, for 33 judges by the message lent. Accepted, also when a command
+   failed, an answer to the oldest ends it and the answered ones right behind it, and the next tag
+   is as many more, modulo 16; an answer to a younger one marks it, and none ends. Of each that
+   ended the caller asks for the outcome, by its own message and answer. Refusals: 37, 30, 31, 32,
+   33, then 34 and 35 at each header, with the sender as it was and none ended. */
+CharkhavoTaken charkhavo_take(CharkhavoSender sender,
                               const uint8_t *message, uint64_t message_length,
                               const uint8_t *answer, uint64_t answer_length);
 

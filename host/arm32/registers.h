@@ -1,6 +1,6 @@
 /* What the functions that calls.awk writes stand on. The module's own give up to 16 bytes in r0 to
- * r3, and take a record of 8 bytes as one number of 64 bits. C on 32-bit Arm gives a struct of more
- * than 4 bytes through a pointer that comes first, and takes one word by word. */
+ * r3, and take a record of up to 8 bytes as a number in two registers. C on 32-bit Arm gives a struct
+ * of more than 4 bytes through a pointer that comes first, and takes one word by word. */
 #include "charkhavo.h"
 
 /* No function passes a floating number: callers of either convention for those may link these. */
@@ -18,5 +18,5 @@ typedef uint32_t Registers __attribute__((vector_size(16)));
     __builtin_memcpy(&result, &given, sizeof result);                                \
     return result
 
-/* A record's bytes as a number. */
+/* A record's bytes as a number; what stands above them is not looked at. */
 #define AS_NUMBER(record) (((union { __typeof__(record) bytes; uint64_t number; }){record}).number)

@@ -3,12 +3,12 @@
  *     LABEL: 80010080 00000004     a datagram, in words, or in bytes of two digits
  *     memory                       memory anew: 8 zero words but word 4 = F00DFACE
  *     fresh                        the record anew
- *     tag 15 1 1                   the record: a tag, and the words of the stored answer and of the kept request */
+ *     tag 15 1 1                   the record: one tag held, and the words of its stored answer and kept request */
 #include "charkhavo.h"
 #include "console.h"
 
-static uint32_t memory[8], stored[CHARKHAVO_WORDS];
-static uint8_t kept[CHARKHAVO_BYTES], output[CHARKHAVO_BYTES];
+static uint32_t memory[8], stored[CHARKHAVO_STORED_WORDS];
+static uint8_t kept[CHARKHAVO_KEPT_BYTES], output[CHARKHAVO_BYTES];
 static CharkhavoTagRecord tags;
 static char line[256];
 
@@ -88,11 +88,13 @@ static void say_state(void) {
         say(" ");
         say_word(memory[k]);
     }
-    if (tags.fresh) {
+    if (tags.held == 0) {
         say("; fresh\n");
     } else {
         say("; tag ");
         say_number(tags.tag);
+        say(", held ");
+        say_number(tags.held);
         say("\n");
     }
 }
@@ -102,8 +104,8 @@ static void serve(const char *text) {
     uint8_t datagram[sizeof line];
     uint64_t length = read_datagram(text, datagram);
     say(line);
-    say_result(charkhavo_serve(memory, 8, kept, CHARKHAVO_BYTES, stored, CHARKHAVO_WORDS, output, CHARKHAVO_BYTES,
-                               &tags, datagram, length));
+    say_result(charkhavo_serve(memory, 8, kept, CHARKHAVO_KEPT_BYTES, stored, CHARKHAVO_STORED_WORDS, output,
+                               CHARKHAVO_BYTES, &tags, datagram, length));
     say_state();
 }
 
@@ -116,10 +118,12 @@ static void set_memory(void) {
 
 static void set_tag(const char *text) {
     uint32_t digits;
-    tags.fresh = false;
+    tags = (CharkhavoTagRecord){0};
+    tags.held = 1;
     tags.tag = read_number(&text, 10, &digits);
-    tags.words = read_number(&text, 10, &digits);
-    tags.request = read_number(&text, 10, &digits);
+    uint32_t place = tags.tag % CHARKHAVO_PLACES;
+    tags.words[place] = read_number(&text, 10, &digits);
+    tags.request[place] = read_number(&text, 10, &digits);
 }
 
 int main(void) {
@@ -134,7 +138,7 @@ int main(void) {
         } else if (line[0] == 'm') {
             set_memory();
         } else if (line[0] == 'f') {
-            tags = (CharkhavoTagRecord){true, 0, 0, 0};
+            tags = (CharkhavoTagRecord){0};
         } else {
             set_tag(line + 4);
         }

@@ -9,17 +9,18 @@ extern void transmit(const uint8_t *answer, uint64_t length);
 extern void refused(uint32_t number, uint32_t at);
 
 static uint32_t memory[MEMORY_WORDS];
-static uint32_t stored[CHARKHAVO_WORDS];                /* the stored answer */
-static uint8_t kept[CHARKHAVO_BYTES];                   /* the kept request */
+static uint32_t stored[CHARKHAVO_STORED_WORDS];         /* the stored answers, of the last four messages */
+static uint8_t kept[CHARKHAVO_KEPT_BYTES];              /* the kept requests */
 static uint8_t output[CHARKHAVO_BYTES];                 /* the answer to send */
 static uint8_t datagram[CHARKHAVO_BYTES + 1];           /* one byte more: too long a one is seen as such, 2 */
-static CharkhavoTagRecord tags = {true, 0, 0, 0};       /* fresh */
+static CharkhavoTagRecord tags = {0};                   /* fresh */
 
 int main(void) {
     for (;;) {
         uint64_t length = receive(datagram, sizeof datagram);
-        CharkhavoSent served = charkhavo_serve(memory, MEMORY_WORDS, kept, CHARKHAVO_BYTES, stored, CHARKHAVO_WORDS,
-                                               output, CHARKHAVO_BYTES, &tags, datagram, length);
+        CharkhavoSent served = charkhavo_serve(memory, MEMORY_WORDS, kept, CHARKHAVO_KEPT_BYTES,
+                                               stored, CHARKHAVO_STORED_WORDS, output, CHARKHAVO_BYTES,
+                                               &tags, datagram, length);
         if (served.refusal.number == CHARKHAVO_ACCEPTED)
             transmit(output, served.sent);
         else

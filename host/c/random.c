@@ -1,13 +1,12 @@
 /* The same random calls of both libraries on every target: messages drawn word by word or built, served, offered, sent
- * and answered, whole and damaged, whatever is lent. Prints how often each call gave each refusal, and a hash of all
- * that was given back and left: two targets agree if they print the same. Exits with 1 if a refusal that a call can
- * give never came. */
+ * and answered, up to four at a time, whole and damaged, whatever is lent. Prints how often each call gave each
+ * refusal, how often so many messages ended at once, and a hash of all that was given back and left: two targets agree
+ * if they print the same. Exits with 1 if a refusal that a call can give, or a number of messages ended, never came. */
 #include "charkhavo.h"
 #include "console.h"
+#include "drawn.h"
 
 #define ROUNDS 1000000
-#define MEMORY_WORDS 64
-#define LAST UINT32_C(0x80000000)
 
 /* The calls that refuse, and the refusals of each. */
 enum Call { SERVE, REFUSAL, BEGIN, ADD, CLOSE, OFFER, SEND, TAKE, DISCOVERED, CALLS };
@@ -23,53 +22,26 @@ static const struct { const char *name; uint8_t refusals[14]; } calls[CALLS] = {
     {"discovered", {0, 32, 33, 34, 35, 38, 99}},
 };
 static uint32_t counts[CALLS][39];
+static uint32_t ended[CHARKHAVO_PLACES + 1];
 
-/* The two ends, and a byte more than the limit of what comes to them. */
-static uint32_t memory[MEMORY_WORDS], stored[CHARKHAVO_WORDS];
-static uint8_t kept[CHARKHAVO_BYTES], output[CHARKHAVO_BYTES];
-static CharkhavoTagRecord tags = {true, 0, 0, 0};
+/* The two ends, and the message that comes to them. */
+static uint32_t memory[MEMORY_WORDS], stored[CHARKHAVO_STORED_WORDS];
+static uint8_t kept[CHARKHAVO_KEPT_BYTES], output[CHARKHAVO_BYTES];
+static CharkhavoTagRecord tags;
 static CharkhavoSender sender;
-static uint8_t message[CHARKHAVO_BYTES + 1], answer[CHARKHAVO_BYTES + 1];
-static uint64_t length, answered;
+static uint8_t message[DRAWN_BYTES];
+static uint64_t length;
 static uint32_t payload[CHARKHAVO_WORDS];
 
-/* A number below another, by xorshift. Two draws never stand in one expression: C does not say which comes first. */
-static uint32_t draw(uint32_t below) {
-    static uint64_t state = UINT64_C(88172645463325252);
-    state ^= state << 13;
-    state ^= state >> 7;
-    state ^= state << 17;
-    return (uint32_t)(state >> 32) % below;
-}
+/* The message that was last offered under a tag of each place, and the last answer of such a tag. */
+static struct Place {
+    uint8_t message[CHARKHAVO_BYTES], answer[CHARKHAVO_BYTES + 1];
+    uint64_t length, answered;
+} places[CHARKHAVO_PLACES];
 
-/* Once in so many times. */
-static bool once_in(uint32_t times) {
-    return draw(times) == 0;
-}
-
-static uint64_t hash = UINT64_C(14695981039346656037);
-
-static void mix(uint64_t number) {
-    hash = (hash ^ number) * UINT64_C(1099511628211);
-    hash ^= hash >> 29;
-}
-
-static void mix_bytes(const uint8_t *bytes, uint64_t count) {
-    for (uint64_t k = 0; k < count; k += 1) {
-        mix(bytes[k]);
-    }
-}
-
-static void mix_words(const uint32_t *words, uint64_t count) {
-    for (uint64_t k = 0; k < count; k += 1) {
-        mix(words[k]);
-    }
-}
-
-static void copy(uint8_t *to, const uint8_t *from, uint64_t count) {
-    for (uint64_t k = 0; k < count; k += 1) {
-        to[k] = from[k];
-    }
+/* The place of a tag, or of a message's byte 0. */
+static struct Place *place_of(uint32_t tag) {
+    return &places[tag % CHARKHAVO_PLACES];
 }
 
 static void note(enum Call call, CharkhavoRefusal refusal) {
@@ -78,95 +50,9 @@ static void note(enum Call call, CharkhavoRefusal refusal) {
     counts[call][refusal.number < 39 ? refusal.number : 38] += 1;
 }
 
-static void put_word(uint64_t place, uint32_t word) {
-    for (uint32_t k = 0; k < 4 && 4 * place + k < sizeof message; k += 1) {
-        message[4 * place + k] = (uint8_t)(word >> 8 * k);
-    }
-}
-
-/* A tag: mostly that which the sender says. */
+/* A tag: mostly that which may be offered. */
 static uint32_t draw_tag(void) {
-    return once_in(6) ? draw(16) : sender.next;
-}
-
-static uint32_t draw_kind(void) {
-    return once_in(40) ? CHARKHAVO_RESPONSE : draw(3);
-}
-
-/* Bit 0: addresses of 64 bits; bit 1: discovery. */
-static uint32_t draw_modes(void) {
-    uint32_t wide = once_in(4) ? 1 : 0;
-    return once_in(8) ? wide | 2 : wide;
-}
-
-/* How many data words: few, seldom too many. */
-static uint32_t draw_count(uint32_t kind, uint32_t most) {
-    if (kind == CHARKHAVO_NOP) {
-        return once_in(20) ? draw(6) : draw(3);
-    }
-    return once_in(40) ? draw(most + 1) : 1 + draw(4);
-}
-
-/* Byte enables of the first and last word: mostly whole, else any. */
-static uint32_t draw_enables(uint32_t count) {
-    if (once_in(3)) {
-        return draw(256);
-    }
-    return count == 1 ? 0x0F : 0xFF;
-}
-
-/* An address, mostly of memory; in the first 2^32 bytes but seldom. */
-static uint64_t draw_address(void) {
-    uint64_t address = 4 * draw(MEMORY_WORDS + 2);
-    if (once_in(40)) {
-        address += 1;
-    }
-    return once_in(40) ? address + (UINT64_C(1) << 32) : address;
-}
-
-/* Draws a command at a place in the message; gives the place behind it. */
-static uint64_t draw_command(uint64_t place, uint32_t byte0, bool last) {
-    uint32_t kind = byte0 >> 4 & 3;
-    uint32_t count = draw_count(kind, 4095);
-    uint32_t enables = draw_enables(count);
-    uint32_t header = byte0 | enables << 8 | count << 16 | (last ? LAST : 0);
-    if (once_in(60)) {
-        header ^= UINT32_C(1) << draw(32);
-    }
-    put_word(place, header);
-    place += 1;
-    if (kind == CHARKHAVO_WRITE || kind == CHARKHAVO_READ) {
-        uint64_t address = draw_address();
-        put_word(place, (uint32_t)address);
-        put_word(place + 1, (uint32_t)(address >> 32));
-        place += (byte0 & 0x40) != 0 ? 2 : 1;
-    }
-    for (uint32_t k = 0; k < count && kind != CHARKHAVO_READ; k += 1) {
-        put_word(place, draw(0xFFFFFFFF));
-        place += 1;
-    }
-    return place;
-}
-
-/* Draws a message word by word. */
-static void draw_message(void) {
-    uint32_t byte0 = draw_tag();
-    byte0 |= draw_kind() << 4;
-    byte0 |= draw_modes() << 6;
-    uint32_t commands = 1 + draw(4);
-    uint64_t words = 0;
-    for (uint32_t k = 1; k <= commands; k += 1) {
-        words = draw_command(words, byte0, k == commands);
-    }
-    length = 4 * words;
-    if (once_in(30)) {
-        length = draw(sizeof message + 1);
-    } else if (once_in(30)) {
-        length -= 4 * draw(3);
-    }
-    if (length > sizeof message) {
-        length = sizeof message;
-    }
+    return once_in(6) ? draw(16) : (sender.next + sender.waiting) % UINT32_C(16);
 }
 
 static void mix_building(const CharkhavoBuilding *building) {
@@ -233,178 +119,236 @@ static void build_message(void) {
     mix_bytes(message, length);
 }
 
-/* Serves the message; the answer is set aside if there is one. */
-static void serve(void) {
+static void mix_tags(void) {
+    mix(tags.held);
+    mix(tags.tag);
+    mix_words(tags.words, CHARKHAVO_PLACES);
+    mix_words(tags.request, CHARKHAVO_PLACES);
+}
+
+/* A record that says anything. */
+static void draw_tags(void) {
+    tags.held = draw(CHARKHAVO_PLACES + 2);
+    tags.tag = draw(18);
+    for (uint32_t k = 0; k < CHARKHAVO_PLACES; k += 1) {
+        tags.words[k] = draw(CHARKHAVO_WORDS + 2);
+        tags.request[k] = draw(CHARKHAVO_WORDS + 2);
+    }
+}
+
+/* Serves a datagram; an answer to it is set aside. A record that is refused gives way to the one before. */
+static void serve(const uint8_t *datagram, uint64_t bytes, struct Place *place) {
+    const CharkhavoTagRecord before = tags;
     uint64_t memory_length = once_in(200) ? 0 : MEMORY_WORDS;
-    uint64_t stored_length = CHARKHAVO_WORDS - (once_in(200) ? 1 : 0);
-    uint64_t kept_length = CHARKHAVO_BYTES - (once_in(200) ? 1 : 0);
+    uint64_t stored_length = CHARKHAVO_STORED_WORDS - (once_in(200) ? 1 : 0);
+    uint64_t kept_length = CHARKHAVO_KEPT_BYTES - (once_in(200) ? 1 : 0);
     uint64_t output_length = CHARKHAVO_BYTES - (once_in(200) ? 1 : 0);
     if (once_in(200)) {
-        tags.fresh = false;
-        tags.tag = draw(18);
-        tags.words = draw(CHARKHAVO_WORDS + 2);
-        tags.request = draw(CHARKHAVO_WORDS + 2);
+        draw_tags();
     }
     CharkhavoSent sent = charkhavo_serve(memory, memory_length, kept, kept_length, stored, stored_length, output,
-                                         output_length, &tags, message, length);
+                                         output_length, &tags, datagram, bytes);
     note(SERVE, sent.refusal);
     mix(sent.sent);
     mix_bytes(output, sent.sent);
     mix_words(memory, MEMORY_WORDS);
-    mix(tags.fresh);
-    mix(tags.tag);
-    mix(tags.words);
-    mix(tags.request);
+    mix_tags();
     if (sent.sent > 0) {
-        mix_bytes(kept, 4 * tags.request);
-        answered = sent.sent;
-        copy(answer, output, answered);
+        uint32_t number = datagram[0] % CHARKHAVO_PLACES;
+        mix_bytes(kept + CHARKHAVO_BYTES * number, bytes);
+        mix_words(stored + CHARKHAVO_WORDS * number, sent.sent / 4);
+        place->answered = sent.sent;
+        copy(place->answer, output, sent.sent);
     }
-    if (sent.refusal.number == CHARKHAVO_REFUSED_LENT || once_in(500)) {
-        tags = (CharkhavoTagRecord){true, 0, 0, 0};
+    if (sent.refusal.number == CHARKHAVO_REFUSED_LENT) {
+        tags = before;
     }
 }
 
 /* Alters a bit of the message: of its first, its second, its last or any byte. */
 static void alter(void) {
     uint32_t any = draw((uint32_t)length);
-    uint64_t places[4] = {0, 1, length - 1, any};
-    uint64_t place = places[draw(4)];
-    message[place] ^= (uint8_t)(1 << draw(8));
+    uint64_t bytes[4] = {0, 1, length - 1, any};
+    uint64_t byte = bytes[draw(4)];
+    message[byte] ^= (uint8_t)(1 << draw(8));
 }
 
-/* Serves the message again as it is, or altered, or another of most likely its tag; it then is as it was. */
+/* Serves a message that was offered before, as it is, or altered, or another of its tag. */
 static void serve_again(void) {
-    static uint8_t first[sizeof message];
-    uint64_t first_length = length;
-    copy(first, message, length);
+    const struct Place *place = &places[draw(CHARKHAVO_PLACES)];
+    length = place->length;
+    copy(message, place->message, length);
     if (once_in(6)) {
-        draw_message();
-    } else if (length > 1 && once_in(2)) {
+        length = draw_message(message, place->message[0] & UINT32_C(15));
+    } else if (length > 1 && once_in(3)) {
         alter();
     }
-    serve();
-    length = first_length;
-    copy(message, first, length);
+    serve(message, length, place_of(message[0]));
 }
 
-/* Alters the answer: a bit of its first words, or its length. */
-static void damage(void) {
+/* Alters an answer: a bit of its first words, or its length. */
+static void damage(struct Place *place) {
     if (once_in(2)) {
         uint32_t bit = draw(8 * 12);
-        answer[bit / 8] ^= (uint8_t)(1 << bit % 8);
+        place->answer[bit / 8] ^= (uint8_t)(1 << bit % 8);
     } else if (once_in(2)) {
-        answered = draw(sizeof answer + 1);
+        place->answered = draw(sizeof place->answer + 1);
     } else {
-        answered = answered / 4 * 4 + 4 * draw(3);
+        place->answered = place->answered / 4 * 4 + 4 * draw(3);
     }
-    if (answered > sizeof answer) {
-        answered = sizeof answer;
+    if (place->answered > sizeof place->answer) {
+        place->answered = sizeof place->answer;
     }
+}
+
+static void mix_sender(CharkhavoSender left) {
+    mix(left.next);
+    mix(left.waiting);
+    mix(left.second);
+    mix(left.third);
+    mix(left.fourth);
 }
 
 static void moved(enum Call call, CharkhavoMoved to) {
     note(call, to.refusal);
-    mix(to.sender.next);
-    mix(to.sender.waits);
+    mix_sender(to.sender);
 }
 
-/* Offers the message, sends it and takes the answer; now and then one of them out of turn. */
-static void exchange(void) {
+/* Offers the message, which then stands at its place. */
+static void offer(void) {
     CharkhavoMoved to = charkhavo_offer(sender, message, length);
     moved(OFFER, to);
-    if (!once_in(10)) {
+    if (to.refusal.number == CHARKHAVO_ACCEPTED && !once_in(20)) {
+        struct Place *place = place_of(message[0]);
+        place->length = length;
+        copy(place->message, message, length);
         sender = to.sender;
-    }
-    CharkhavoSending sending = charkhavo_send(sender, message, length);
-    note(SEND, sending.refusal);
-    mix(sending.length);
-    to = charkhavo_take(sender, message, length, answer, answered);
-    moved(TAKE, to);
-    sender = to.sender;
-    if (to.refusal.number != CHARKHAVO_ACCEPTED && !once_in(8)) {
-        sender.waits = false;
-    }
-    if (sender.next > 15) {
-        sender = charkhavo_fresh();
-    } else if (once_in(100)) {
-        sender.next = 16;
     }
 }
 
-/* What the answer tells of the message. */
+/* Sends a message of some place and takes an answer of it; seldom that of another place. */
+static void exchange(void) {
+    const struct Place *place = &places[draw(CHARKHAVO_PLACES)];
+    const struct Place *from = once_in(10) ? &places[draw(CHARKHAVO_PLACES)] : place;
+    CharkhavoSending sending = charkhavo_send(sender, place->message, place->length);
+    note(SEND, sending.refusal);
+    mix(sending.length);
+    CharkhavoTaken taken = charkhavo_take(sender, place->message, place->length, from->answer, from->answered);
+    note(TAKE, taken.refusal);
+    mix_sender(taken.sender);
+    mix(taken.ended);
+    sender = taken.sender;
+    if (taken.refusal.number == CHARKHAVO_ACCEPTED) {
+        ended[taken.ended <= CHARKHAVO_PLACES ? taken.ended : 0] += 1;
+    }
+}
+
+/* Alters the sender's record: some that come of it are refused, until it starts anew. */
+static void alter_sender(void) {
+    switch (draw(5)) {
+    case 0: sender.next = (uint8_t)draw(18); break;
+    case 1: sender.waiting = (uint8_t)draw(7); break;
+    case 2: sender.second = !sender.second; break;
+    case 3: sender.third = !sender.third; break;
+    default: sender.fourth = !sender.fourth; break;
+    }
+}
+
+/* What an answer tells of a message, mostly of its own. */
 static void tell(void) {
+    const struct Place *place = &places[draw(CHARKHAVO_PLACES)];
+    const struct Place *from = once_in(10) ? &places[draw(CHARKHAVO_PLACES)] : place;
     uint64_t k = draw(5);
-    CharkhavoPart part = charkhavo_read_data(message, length, answer, answered, k);
-    mix(charkhavo_count(message, length, answer, answered));
-    mix(charkhavo_status(message, length, answer, answered, k));
+    CharkhavoPart part = charkhavo_read_data(place->message, place->length, from->answer, from->answered, k);
+    mix(charkhavo_count(place->message, place->length, from->answer, from->answered));
+    mix(charkhavo_status(place->message, place->length, from->answer, from->answered, k));
     mix(part.start);
     mix(part.length);
 }
 
-/* The sender starts anew from the answer to the fixed discovery. */
+/* The sender may start anew from the answer to the fixed discovery. */
 static void discover(void) {
+    static struct Place apart;
     CharkhavoDiscovery discovery = charkhavo_discovery();
-    length = sizeof discovery.bytes;
-    copy(message, discovery.bytes, length);
-    mix_bytes(message, length);
-    serve();
+    mix_bytes(discovery.bytes, sizeof discovery.bytes);
+    serve(discovery.bytes, sizeof discovery.bytes, &apart);
     if (once_in(2)) {
-        damage();
+        damage(&apart);
     }
-    CharkhavoMoved to = charkhavo_discovered(answer, answered);
+    CharkhavoMoved to = charkhavo_discovered(apart.answer, apart.answered);
     moved(DISCOVERED, to);
-    if (to.refusal.number == CHARKHAVO_ACCEPTED) {
+    bool full = sender.next > 15 || sender.waiting >= CHARKHAVO_PLACES;
+    if (to.refusal.number == CHARKHAVO_ACCEPTED && (full || once_in(6))) {
         sender = to.sender;
     }
 }
 
 static void play(uint32_t round) {
     if (once_in(2)) {
-        draw_message();
+        uint32_t tag = draw_tag();
+        length = draw_message(message, tag);
     } else {
         build_message();
     }
     note(REFUSAL, charkhavo_refusal(message, length));
-    serve();
+    offer();
+    serve(message, length, place_of(message[0]));
     if (once_in(2)) {
         serve_again();
     }
-    if (once_in(4)) {
-        damage();
+    if (once_in(8)) {
+        damage(&places[draw(CHARKHAVO_PLACES)]);
     }
-    exchange();
+    for (uint32_t times = draw(5); times > 0; times -= 1) {
+        exchange();
+    }
     tell();
+    if (once_in(50)) {
+        alter_sender();
+    }
+    if (once_in(500)) {
+        tags = (CharkhavoTagRecord){0};
+    }
     if (once_in(4)) {
         discover();
     }
     if (round % 256 == 0) {
         mix_bytes(output, CHARKHAVO_BYTES);
-        mix_bytes(kept, CHARKHAVO_BYTES);
+        mix_bytes(kept, CHARKHAVO_KEPT_BYTES);
         mix_bytes(message, CHARKHAVO_BYTES);
-        mix_words(stored, CHARKHAVO_WORDS);
+        mix_words(stored, CHARKHAVO_STORED_WORDS);
     }
 }
 
-/* Says how often each refusal came; whether all did that can. */
+/* Says how often a number came, after others or as the first; whether it did. */
+static bool report_one(bool first, uint32_t number, uint32_t times) {
+    say(first ? ": " : ", ");
+    say_number(number);
+    say(" x ");
+    say_number(times);
+    return times != 0;
+}
+
+/* Says how often each refusal came, and how often so many ended; whether all did that can. */
 static bool report(void) {
     bool all = true;
     for (int call = 0; call < CALLS; call += 1) {
         say(calls[call].name);
         for (const uint8_t *number = calls[call].refusals; *number != 99; number += 1) {
-            say(number == calls[call].refusals ? ": " : ", ");
-            say_number(*number);
-            say(" x ");
-            say_number(counts[call][*number]);
-            all = all && counts[call][*number] != 0;
+            all = report_one(number == calls[call].refusals, *number, counts[call][*number]) && all;
         }
         say("\n");
     }
+    say("ended");
+    for (uint32_t many = 0; many <= CHARKHAVO_PLACES; many += 1) {
+        all = report_one(many == 0, many, ended[many]) && all;
+    }
+    say("\n");
     say_number(ROUNDS);
     say(" rounds, hash ");
     say_word((uint32_t)(hash >> 32));
     say_word((uint32_t)hash);
-    say(all ? "\n" : "\nNOT ALL REFUSALS CAME\n");
+    say(all ? "\n" : "\nNOT ALL CAME\n");
     return all;
 }
 

@@ -1,29 +1,29 @@
 //! The controller's end, through its library.
 
 use crate::ffi::{self, TagRecord};
-use crate::limits::{BYTES, WORDS};
+use crate::limits::{BYTES, KEPT, STORED};
 use crate::refusal::Refusal;
 
-/// A controller: its stored answer, its kept request, its output and its tag record. Memory is
+/// A controller: its stored answers, its kept requests, its output and its tag record. Memory is
 /// lent to it at each call, and may be changed by others in between.
 #[derive(Clone, Debug, PartialEq, Eq)]
 pub struct Controller {
-    stored: [u32; WORDS],
-    kept: [u8; BYTES],
+    stored: [u32; STORED],
+    kept: [u8; KEPT],
     output: [u8; BYTES],
     tags: TagRecord,
 }
 
 impl Controller {
-    /// A controller that has no tag stored, and takes any as new.
+    /// A controller that holds no message, and takes only tag 0 as new.
     pub fn fresh() -> Controller {
-        let tags = TagRecord { fresh: true, tag: 0, words: 0, request: 0 };
-        Controller { stored: [0; WORDS], kept: [0; BYTES], output: [0; BYTES], tags }
+        let tags = TagRecord::FRESH;
+        Controller { stored: [0; STORED], kept: [0; KEPT], output: [0; BYTES], tags }
     }
 
-    /// The stored tag: that of the last new message; none while fresh.
+    /// The tag of the newest message; none while fresh.
     pub fn tag(&self) -> Option<u32> {
-        (!self.tags.fresh).then_some(self.tags.tag)
+        (self.tags.held != 0).then_some(self.tags.tag)
     }
 
     /// Serves one datagram upon a memory of 1 to 16,384 words; gives the bytes to send back.

@@ -1,5 +1,5 @@
 //! Charkhavo's two static libraries for programs in Rust, and an ordinary implementation of the
-//! same rules (document 01) to compare them with.
+//! same rules (document 01 and the requests that have landed) to compare them with.
 //!
 //! The libraries' wrappers: `controller`, `builder`, `sender` and `outcome` are the ends as a
 //! program holds them; `refusal` is the error of each call; `ffi`, below them, has one function
@@ -9,15 +9,22 @@
 //! # use charkhavo_host::builder::{Builder, Enables, Head, Write};
 //! # use charkhavo_host::{Controller, Refusal, Sender, Status};
 //! # fn main() -> Result<(), Refusal> {
-//! # let (mut controller, mut sender, mut memory) = (Controller::fresh(), Sender::fresh(), [0; 8]);
-//! let head = Head { tag: sender.next_tag(), wide: false, discovery: false };
-//! let mut builder = Builder::<Write>::begin(head)?;
-//! builder.write(0x10, Enables::whole(1), &[7])?;
-//! sender.offer(builder.close()?)?;
+//! # let (mut controller, mut sender, mut memory) = (Controller::fresh(), Sender::fresh(), [0; 10]);
+//! // Up to four messages wait.
+//! for number in [7, 8, 9] {
+//!     let head = Head { tag: sender.new_tag(), wide: false, discovery: false };
+//!     let mut builder = Builder::<Write>::begin(head)?;
+//!     builder.write(4 * number, Enables::whole(1), &[number as u32])?;
+//!     sender.offer(builder.close()?)?;
+//! }
 //! // What `send` gives goes to the controller, again and again until an answer is taken.
-//! let answer = controller.serve(&mut memory, sender.send()?)?;
-//! let outcome = sender.take(answer)?;
-//! assert_eq!((outcome.status(0), memory[4]), (Some(Status::Ok), 7));
+//! for tag in sender.unanswered() {
+//!     let answer = controller.serve(&mut memory, sender.send(tag)?)?;
+//!     for outcome in sender.take(answer)? {
+//!         assert_eq!(outcome.status(0), Some(Status::Ok));
+//!     }
+//! }
+//! assert_eq!((sender.waiting(), &memory[7..]), (0, &[7, 8, 9][..]));
 //! # Ok(())
 //! # }
 //! ```

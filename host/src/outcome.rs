@@ -24,6 +24,16 @@ impl<'a> Outcome<'a> {
         Outcome { request, answer }
     }
 
+    /// The message.
+    pub fn request(&self) -> &'a [u8] {
+        self.request
+    }
+
+    /// Its answer.
+    pub fn answer(&self) -> &'a [u8] {
+        self.answer
+    }
+
     /// How many commands were answered.
     pub fn count(&self) -> usize {
         ffi::count(self.request, self.answer)

@@ -51,15 +51,16 @@ impl Refusal {
     pub const ANSWER_BYTE_0: Refusal = Refusal::of(33);
     pub const ANSWER_HEADER: Refusal = Refusal::of(34);
     pub const ANSWER_END: Refusal = Refusal::of(35);
-    pub const ONE_WAITS: Refusal = Refusal::of(36);
-    pub const NEXT_TAG: Refusal = Refusal::of(37);
+    pub const FOUR_WAIT: Refusal = Refusal::of(36);
+    pub const SENDER: Refusal = Refusal::of(37);
     pub const DISCOVERY: Refusal = Refusal::of(38);
 }
 
-/// Document 01's sentence for each number, 1 and 12 by request [7]; `{words}` and `{bytes}` stand
-/// for the limit.
+/// Document 01's sentence for each number, 1, 11, 12, 31, 36 and 37 by requests [7] and [9];
+/// `{words}` and `{bytes}` stand for the limit.
 pub const TABLE: [(u32, &str); 27] = [
-    (1, "memory, stored answer, kept request or output has a forbidden length, or the record is not fresh and not (tag 0 to 15, both lengths 1 to {words})"),
+    (1, "memory, stored answers, kept requests or output has a forbidden length, or the record is not fresh and \
+         not (one to four held, newest tag 0 to 15, both lengths of each held 1 to {words})"),
     (2, "0 bytes, not a multiple of 4, or over {bytes}"),
     (3, "a header or body runs past the end"),
     (4, "byte 0 differs from the first header's"),
@@ -69,8 +70,8 @@ pub const TABLE: [(u32, &str); 27] = [
     (8, "byte enables not allowed"),
     (9, "words follow the LAST command"),
     (10, "the answer with all commands OK would pass {words} words"),
-    (11, "out of step (discovery clear)"),
-    (12, "a repeat whose bytes differ from the kept request"),
+    (11, "out of step (discovery clear): the tag is neither held nor the next, which is 0 for a fresh record"),
+    (12, "a repeat whose bytes differ from the kept request of its tag"),
     (21, "short output, kind over 2, tag over 15 or a building record that no sequence of calls gives"),
     (22, "adding after closing, closing twice or closing with nothing added"),
     (23, "count"),
@@ -78,13 +79,15 @@ pub const TABLE: [(u32, &str); 27] = [
     (25, "address of 2^32 or more in 32-bit mode"),
     (26, "request or all-OK answer would pass {words} words"),
     (30, "sending or taking an answer while none waits"),
-    (31, "request would be refused 2 to 10, has the discovery bit, or its tag is not the next tag (that of the waiting message while one waits)"),
+    (31, "request would be refused 2 to 10, has the discovery bit, or its tag is not (offering) the one \
+         after the newest, or (sending, taking) that of a waiting message not yet answered"),
     (32, "answer length 0, not a multiple of 4, or over {bytes}"),
     (33, "byte 0 is not the request's with kind 3"),
-    (34, "later byte 0 differs, reserved or bits 15:12 set, status 3 or more, or count wrong (nonzero status: count 0)"),
+    (34, "later byte 0 differs, reserved or bits 15:12 set, status 3 or more, or count wrong (nonzero \
+         status: count 0)"),
     (35, "a header or body past the end, LAST missing or early, or words after it"),
-    (36, "offering while one waits"),
-    (37, "sender record's next tag over 15"),
+    (36, "offering while four wait"),
+    (37, "sender record's next tag over 15, or more than four waiting"),
     (38, "discovery status not OK, or word 1 has bits above 4 set, or bit 4 clear and a tag nonzero"),
 ];
 

@@ -1,16 +1,17 @@
 //! The loader's sender, through its library.
 
 use crate::ffi;
-use crate::limits::BYTES;
+use crate::limits::{BYTES, PLACES};
 use crate::outcome::Outcome;
 use crate::refusal::Refusal;
 
-/// A sender with a place for the one message that may wait. A refused call changes nothing.
+/// A sender with a place for each of the four messages that may wait, and for their answers. A
+/// refused call changes nothing.
 #[derive(Clone, Debug, PartialEq, Eq)]
 pub struct Sender {
     record: ffi::Sender,
-    message: [u8; BYTES],
-    length: usize,
+    /// A message's place is its tag modulo four.
+    places: [Place; PLACES],
 }
 
 impl Sender {
@@ -19,7 +20,7 @@ impl Sender {
         Sender::with(ffi::fresh())
     }
 
-    /// The datagram that asks a controller for its stored tag.
+    /// The datagram that asks a controller for its newest tag.
     pub fn discovery() -> [u8; 12] {
         ffi::discovery()
     }
@@ -32,47 +33,124 @@ impl Sender {
     }
 
     fn with(record: ffi::Sender) -> Sender {
-        Sender { record, message: [0; BYTES], length: 0 }
+        Sender { record, places: [const { Place::EMPTY }; PLACES] }
     }
 
-    /// The tag of the next message, or of the waiting one while one waits.
-    pub fn next_tag(&self) -> u32 {
-        self.record.next
+    /// The tag of the message to offer: the one after the newest.
+    pub fn new_tag(&self) -> u32 {
+        tag_behind(self.record, self.waiting())
     }
 
-    /// Whether a message waits for its answer.
-    pub fn waits(&self) -> bool {
-        self.record.waits
+    /// How many messages wait, answered ones among them: four at most.
+    pub fn waiting(&self) -> usize {
+        self.record.waiting.into()
+    }
+
+    /// The tags of the messages that wait and are not answered, the oldest first.
+    pub fn unanswered(&self) -> impl Iterator<Item = u32> {
+        let record = self.record;
+        let answered = [false, record.second, record.third, record.fourth];
+        let waiting = (0..record.waiting.into()).filter(move |k| !answered[*k]);
+        waiting.map(move |k| tag_behind(record, k))
     }
 
     /// Offers a message, which is copied and waits: 36, 31.
     pub fn offer(&mut self, message: &[u8]) -> Result<(), Refusal> {
         let moved = ffi::offer(self.record, message);
         moved.refusal.result()?;
-        self.message[..message.len()].copy_from_slice(message);
-        self.length = message.len();
+        let place = place_of(self.new_tag());
+        self.places[place].message.put(message);
         self.record = moved.sender;
         Ok(())
     }
 
-    /// The waiting message's bytes, any number of times: 30.
-    pub fn send(&self) -> Result<&[u8], Refusal> {
-        let message = self.message();
+    /// The bytes of the unanswered message of this tag, any number of times: 30, and 31 where there
+    /// is none.
+    pub fn send(&self, tag: u32) -> Result<&[u8], Refusal> {
+        let asked = self.unanswered().find(|unanswered| *unanswered == tag);
+        let message = asked.map_or(&[][..], |tag| self.places[place_of(tag)].message.bytes());
         let sending = ffi::send(self.record, message);
         sending.refusal.result()?;
         Ok(&message[..sending.length])
     }
 
-    /// Takes an answer, which ends the waiting message, and gives its outcome: 30, 32 to 35.
-    pub fn take<'a>(&'a mut self, answer: &'a [u8]) -> Result<Outcome<'a>, Refusal> {
-        let moved = ffi::take(self.record, self.message(), answer);
-        moved.refusal.result()?;
-        self.record = moved.sender;
-        Ok(Outcome::new(self.message(), answer))
-    }
-
-    /// The message last offered.
-    fn message(&self) -> &[u8] {
-        &self.message[..self.length]
+    /// Takes an answer, which is copied: 30, 32 to 35, of them 33 for one that has no unanswered
+    /// message's tag. Gives the outcomes of the messages that it ends: of the oldest and of the
+    /// answered ones right behind it, or of none where it came before an older one's.
+    pub fn take(&mut self, answer: &[u8]) -> Result<Outcomes<'_>, Refusal> {
+        let oldest = tag_behind(self.record, 0);
+        let given = answer.first().map(|byte| u32::from(byte & 15));
+        let asked = self.unanswered().find(|tag| given == Some(*tag));
+        let place = &mut self.places[place_of(asked.unwrap_or(oldest))];
+        let taken = ffi::take(self.record, place.message.bytes(), answer);
+        taken.refusal.result()?;
+        place.answer.put(answer);
+        self.record = taken.sender;
+        Ok(Outcomes { places: &self.places, tag: oldest, left: taken.ended.into() })
     }
 }
+
+/// The tag of the message that is so many behind the oldest.
+fn tag_behind(record: ffi::Sender, k: usize) -> u32 {
+    (u32::from(record.next) + k as u32) % 16
+}
+
+fn place_of(tag: u32) -> usize {
+    tag as usize % PLACES
+}
+
+/// A message, and its answer once that was accepted.
+#[derive(Clone, Debug, PartialEq, Eq)]
+struct Place {
+    message: Datagram,
+    answer: Datagram,
+}
+
+impl Place {
+    const EMPTY: Place = Place { message: Datagram::EMPTY, answer: Datagram::EMPTY };
+}
+
+#[derive(Clone, Debug, PartialEq, Eq)]
+struct Datagram {
+    room: [u8; BYTES],
+    length: usize,
+}
+
+impl Datagram {
+    const EMPTY: Datagram = Datagram { room: [0; BYTES], length: 0 };
+
+    /// Copies what a call has accepted, so that it is not over the limit.
+    fn put(&mut self, bytes: &[u8]) {
+        self.room[..bytes.len()].copy_from_slice(bytes);
+        self.length = bytes.len();
+    }
+
+    fn bytes(&self) -> &[u8] {
+        &self.room[..self.length]
+    }
+}
+
+/// The outcomes of the messages that an answer ended, in order of tag.
+#[derive(Clone, Debug, PartialEq, Eq)]
+pub struct Outcomes<'a> {
+    places: &'a [Place; PLACES],
+    tag: u32,
+    left: usize,
+}
+
+impl<'a> Iterator for Outcomes<'a> {
+    type Item = Outcome<'a>;
+
+    fn next(&mut self) -> Option<Outcome<'a>> {
+        self.left = self.left.checked_sub(1)?;
+        let Place { message, answer } = &self.places[place_of(self.tag)];
+        self.tag += 1;
+        Some(Outcome::new(message.bytes(), answer.bytes()))
+    }
+
+    fn size_hint(&self) -> (usize, Option<usize>) {
+        (self.left, Some(self.left))
+    }
+}
+
+impl ExactSizeIterator for Outcomes<'_> {}

@@ -1,7 +1,7 @@
 //! Times controllers alike: the same datagrams, the same buffers at the same addresses, filled
 //! the same way before each round, rounds of all interleaved, the median of each taken.
 
-use crate::limits::{BYTES, WORDS};
+use crate::limits::{BYTES, KEPT, PLACES, STORED, WORDS};
 use crate::plain::message::Header;
 use crate::random::{bytes_of, Random};
 use crate::{ffi, plain};
@@ -12,7 +12,7 @@ use std::time::Instant;
 pub trait Controller {
     const NAME: &'static str;
     /// An earlier one may do another thing, as under another limit, and is not timed where it does.
-    /// It may keep no request, so what it leaves of that is not looked at.
+    /// It stores and keeps in its own way, so what it leaves of that is not looked at.
     const EARLIER: bool = false;
     type Record;
 
@@ -37,7 +37,7 @@ impl Controller for Proved {
     type Record = ffi::TagRecord;
 
     fn fresh() -> ffi::TagRecord {
-        ffi::TagRecord { fresh: true, tag: 0, words: 0, request: 0 }
+        ffi::TagRecord::FRESH
     }
 
     #[inline(always)]
@@ -107,10 +107,11 @@ impl Controller for Plain {
     }
 }
 
-/// What is timed: these datagrams, over and over, from a fresh record.
+/// What is timed: these datagrams, over and over, after others that come once to a fresh record.
 pub struct Case {
     pub name: String,
-    pub datagrams: Vec<Vec<u8>>,
+    first: Vec<Vec<u8>>,
+    datagrams: Vec<Vec<u8>>,
 }
 
 /// Words of memory that the timed controllers serve.
@@ -127,7 +128,8 @@ pub fn cases() -> Vec<Case> {
         tags("read of 1 word", |tag| read(tag, 1)),
         tags("write of 1 word, 2 bytes enabled", |tag| writes(tag, 1, 1, || 0x06)),
         tags("write of 2 words, 3 bytes enabled", |tag| writes(tag, 1, 2, || 0x1C)),
-        tags("discovery (a NOP of 2 words)", |_| plain::sender::DISCOVERY.to_vec()),
+        discovery("discovery (a NOP of 2 words)", 0),
+        discovery("discovery, four held", PLACES),
     ];
     cases.extend(filling(ORDINARY));
     cases.extend(filling(WORDS));
@@ -141,12 +143,14 @@ fn filling(words: usize) -> Vec<Case> {
         tags(&format!("write of {} words", words - 2), |tag| writes(tag, 1, words - 2, || 0xFF));
     let read = tags(&format!("read of {} words", words - 1), |tag| read(tag, words - 1));
     let (read_again, written_again) = (repeats(&read), repeats(&written));
+    let fourth_last = repeats_of_fourth_last(&read);
     vec![
         tags(&format!("{many} writes of 1 word"), |tag| writes(tag, many, 1, || 0x0F)),
         tags(&format!("{pairs} writes of 2 words"), |tag| writes(tag, pairs, 2, || 0xFF)),
         written,
         read,
         read_again,
+        fourth_last,
         written_again,
         tags(&format!("{many} writes of 1 word, 2 bytes enabled"), |tag| {
             writes(tag, many, 1, || 0x06)
@@ -164,12 +168,26 @@ fn filling(words: usize) -> Vec<Case> {
 
 /// A case of sixteen datagrams, one for each tag, so that each is new after the one before.
 fn tags(name: &str, datagram: impl Fn(u32) -> Vec<u8>) -> Case {
-    Case { name: name.into(), datagrams: (0..16).map(datagram).collect() }
+    Case { name: name.into(), first: Vec::new(), datagrams: (0..16).map(datagram).collect() }
+}
+
+/// The fixed discovery, with so many messages held.
+fn discovery(name: &str, held: usize) -> Case {
+    let first = (0..held as u32).map(|tag| read(tag, 1)).collect();
+    Case { first, ..tags(name, |_| plain::sender::DISCOVERY.to_vec()) }
 }
 
 /// The first datagram of a case alone, so that all but the first of them are repeats.
 fn repeats(of: &Case) -> Case {
-    Case { name: format!("repeat of a {}", of.name), datagrams: vec![of.datagrams[0].clone()] }
+    let (name, datagrams) = (format!("repeat of a {}", of.name), of.datagrams[..1].to_vec());
+    Case { name, first: Vec::new(), datagrams }
+}
+
+/// The same, with three newer messages held beside it.
+fn repeats_of_fourth_last(of: &Case) -> Case {
+    let repeats = repeats(of);
+    let (name, first) = (format!("{}, 4th last", repeats.name), of.datagrams[..PLACES].to_vec());
+    Case { name, first, ..repeats }
 }
 
 /// A message of some writes, each to a place of its own, its enables (byte 1 of the
@@ -201,7 +219,7 @@ struct Buffers {
 impl Buffers {
     fn new() -> Buffers {
         let memory = vec![0; MEMORY.max(WORDS + 16)];
-        Buffers { memory, stored: vec![0; WORDS], kept: vec![0; BYTES], output: vec![0; BYTES] }
+        Buffers { memory, stored: vec![0; STORED], kept: vec![0; KEPT], output: vec![0; BYTES] }
     }
 
     fn refill(&mut self) {
@@ -213,13 +231,12 @@ impl Buffers {
         self.output.fill(0);
     }
 
-    /// Whether a controller has left the same contents as ours; an earlier one's kept request is
-    /// not looked at.
+    /// Whether a controller has left the same contents as ours; what an earlier one stores and keeps
+    /// is not looked at.
     fn same(&self, ours: &Buffers, earlier: bool) -> bool {
         self.memory == ours.memory
-            && self.stored == ours.stored
             && self.output == ours.output
-            && (earlier || self.kept == ours.kept)
+            && (earlier || (self.stored == ours.stored && self.kept == ours.kept))
     }
 }
 
@@ -294,7 +311,9 @@ fn timed<C: Controller>(case: &Case, buffers: &mut Buffers) -> bool {
 /// Two passes over refilled buffers, so that what is repeated is; 0 if nothing was refused.
 fn twice<C: Controller>(case: &Case, buffers: &mut Buffers) -> u32 {
     buffers.refill();
-    play::<C>(case, buffers, &mut C::fresh(), 2)
+    let mut tags = C::fresh();
+    let refused = play::<C>(&case.first, buffers, &mut tags, 1);
+    refused | play::<C>(&case.datagrams, buffers, &mut tags, 2)
 }
 
 /// One round; gives nanoseconds a message.
@@ -302,9 +321,10 @@ fn round<C: Controller>(case: &Case, buffers: &mut Buffers, messages: usize) -> 
     buffers.refill();
     let mut tags = C::fresh();
     let passes = messages.div_ceil(case.datagrams.len());
-    let mut refused = play::<C>(case, buffers, &mut tags, passes.min(4));
+    let mut refused = play::<C>(&case.first, buffers, &mut tags, 1);
+    refused |= play::<C>(&case.datagrams, buffers, &mut tags, passes.min(4));
     let start = Instant::now();
-    refused |= play::<C>(case, buffers, &mut tags, passes);
+    refused |= play::<C>(&case.datagrams, buffers, &mut tags, passes);
     let spent = start.elapsed();
     assert!(refused == 0, "{}: {} refused {}", case.name, C::NAME, refused);
     spent.as_nanos() as f64 / (passes * case.datagrams.len()) as f64
@@ -313,14 +333,14 @@ fn round<C: Controller>(case: &Case, buffers: &mut Buffers, messages: usize) -> 
 /// Serves the datagrams so many times over; 0 if none was refused.
 #[inline(never)]
 fn play<C: Controller>(
-    case: &Case,
+    datagrams: &[Vec<u8>],
     buffers: &mut Buffers,
     tags: &mut C::Record,
     passes: usize,
 ) -> u32 {
     let mut refused = 0;
     for _ in 0..passes {
-        for datagram in &case.datagrams {
+        for datagram in datagrams {
             let datagram = black_box(datagram.as_slice());
             let Buffers { memory, stored, kept, output } = &mut *buffers;
             let (refusal, sent) = C::serve(memory, stored, kept, output, tags, datagram);

@@ -1,6 +1,6 @@
 //! The refusals in words: document 01's, in Rust and in the C header alike.
 
-use charkhavo_host::limits::WORDS;
+use charkhavo_host::limits::{PLACES, WORDS};
 use charkhavo_host::refusal::{limited, sentence, TABLE};
 use charkhavo_host::Refusal;
 use std::fs;
@@ -27,11 +27,12 @@ fn the_limit_is_told_in_figures() {
 }
 
 #[test]
-fn the_header_has_the_limit_and_each_number_and_its_sentence() {
+fn the_header_has_the_limits_and_each_number_and_its_sentence() {
     let header = concat!(env!("CARGO_MANIFEST_DIR"), "/../include/charkhavo.h");
     let header = fs::read_to_string(header).expect("the header");
     let header = header.split_whitespace().collect::<Vec<&str>>().join(" ");
     assert!(header.contains(&format!("#define CHARKHAVO_WORDS {WORDS} ")));
+    assert!(header.contains(&format!("#define CHARKHAVO_PLACES {PLACES} ")));
     for (number, words) in TABLE {
         let words = limited(words, "CHARKHAVO_WORDS", "CHARKHAVO_BYTES");
         let said = format!("/* {words} */ #define CHARKHAVO_REFUSED_");

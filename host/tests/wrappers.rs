@@ -31,19 +31,25 @@ fn a_controller_serves_repeats_and_refuses() {
     let sent = bytes_of(&[0x8000_0030]);
     assert_eq!(controller.serve(&mut memory, &bytes_of(&A)), Ok(sent.as_slice()));
     assert_eq!((controller.tag(), memory[1]), (Some(0), 0xFEED_C0DE));
+    for tag in 1..4 {
+        controller.serve(&mut memory, &bytes_of(&[0x8001_0F10 | tag, 0, tag])).unwrap();
+        assert_eq!(controller.tag(), Some(tag));
+    }
     memory[1] = 5;
     assert_eq!(controller.serve(&mut memory, &bytes_of(&A)), Ok(sent.as_slice()));
-    assert_eq!(memory[1], 5, "a repeat");
+    assert_eq!(memory[1], 5, "a repeat, of the fourth-last");
     let before = controller.clone();
-    let late = bytes_of(&[0x8001_0F12, 4, 0]);
-    assert_eq!(controller.serve(&mut memory, &late), refused(11));
+    let early = bytes_of(&[0x8001_0F15, 4, 0]);
+    assert_eq!(controller.serve(&mut memory, &early), refused(11));
     let other = bytes_of(&[A[0], A[1], 0]);
     assert_eq!(controller.serve(&mut memory, &other), refused(12));
     assert_eq!(controller.serve(&mut memory, &[]), refused(2));
     assert_eq!(controller.serve(&mut memory, &bytes_of(&READS[..2])), refused_at(3, 2));
     assert_eq!(controller.serve(&mut [], &bytes_of(&A)), refused(1));
     assert_eq!(controller.serve(&mut vec![0; MEMORY + 1], &bytes_of(&A)), refused(1));
-    assert!(controller == before && memory == [0, 5, 0, 0, 0, 0, 0, 0]);
+    assert!(controller == before && memory == [3, 5, 0, 0, 0, 0, 0, 0]);
+    let nop = bytes_of(&[0x8000_0001]);
+    assert_eq!(Controller::fresh().serve(&mut memory, &nop), refused(11), "fresh takes only tag 0");
 }
 
 /// The fault that put us here: a loader that restarts and counts from nought. Its write was taken
@@ -55,13 +61,14 @@ fn a_loader_that_counts_from_nought_is_refused() {
     let mut sender = Sender::fresh();
     let delay = |tag: u32| bytes_of(&[0x8001_0F10 | tag, 8, 7]);
     sender.offer(&delay(0)).unwrap();
-    assert_eq!(controller.serve(&mut memory, sender.send().unwrap()), refused(12));
+    assert_eq!(controller.serve(&mut memory, sender.send(0).unwrap()), refused(12));
     assert_eq!(memory[2], 0);
     let answer = controller.serve(&mut memory, &Sender::discovery()).unwrap();
     let mut sender = Sender::discovered(answer).unwrap();
     sender.offer(&delay(1)).unwrap();
-    let answer = controller.serve(&mut memory, sender.send().unwrap()).unwrap();
-    assert_eq!(sender.take(answer).unwrap().status(0), Some(Status::Ok));
+    let answer = controller.serve(&mut memory, sender.send(1).unwrap()).unwrap();
+    let outcomes: Vec<Outcome> = sender.take(answer).unwrap().collect();
+    assert_eq!((outcomes.len(), outcomes[0].status(0)), (1, Some(Status::Ok)));
     assert_eq!(memory[2], 7);
 }
 
@@ -118,7 +125,7 @@ fn building_is_refused() {
 fn a_sender_keeps_its_message_until_it_is_answered() {
     let (reads, answer) = (bytes_of(&READS), bytes_of(&ANSWER));
     let mut sender = Sender::fresh();
-    assert_eq!(sender.send(), refused(30));
+    assert_eq!(sender.send(0), refused(30));
     assert_eq!(sender.take(&answer), refused(30));
     assert_eq!(sender.offer(&bytes_of(&[0x8001_0021, 0])), refused(31));
     assert_eq!(sender.offer(&vec![0; BYTES + 4]), refused(31));
@@ -126,26 +133,99 @@ fn a_sender_keeps_its_message_until_it_is_answered() {
     assert_eq!(sender, Sender::fresh());
     assert_eq!(sender.offer(&reads), Ok(()));
     let waiting = sender.clone();
-    assert_eq!(sender.offer(&bytes_of(&A)), refused(36));
+    assert_eq!(sender.offer(&bytes_of(&A)), refused(31), "its tag waits already");
+    assert_eq!(sender.send(1), refused(31));
+    assert_eq!(sender.send(4), refused(31), "another tag of the same place");
     assert_eq!(sender.take(&[]), refused(32));
     assert_eq!(sender.take(&bytes_of(&[0x8000_0031])), refused(33));
     assert_eq!(sender.take(&bytes_of(&[0x8000_0030])), refused(34));
     assert_eq!(sender.take(&answer[..16]), refused_at(35, 3));
-    assert!(sender == waiting && sender.waits());
-    assert_eq!(sender.send(), Ok(reads.as_slice()));
-    assert_eq!(sender.take(&answer), Ok(Outcome::new(&reads, &answer)));
-    assert_eq!((sender.next_tag(), sender.waits()), (1, false));
-    assert_eq!(sender.send(), refused(30));
+    assert!(sender == waiting && sender.waiting() == 1);
+    assert_eq!(sender.send(0), Ok(reads.as_slice()));
+    assert_eq!(outcomes(&mut sender, &answer), [(reads, answer)]);
+    assert_eq!((sender.new_tag(), sender.waiting()), (1, 0));
+    assert_eq!(sender.send(0), refused(30));
+}
+
+/// Messages and answers of the outcomes that taking an answer gives.
+fn outcomes(sender: &mut Sender, answer: &[u8]) -> Vec<(Vec<u8>, Vec<u8>)> {
+    let outcomes = sender.take(answer).expect("taken");
+    outcomes.map(|outcome| (outcome.request().to_vec(), outcome.answer().to_vec())).collect()
+}
+
+/// Reads of one word under tags 0 to 3, and their answers.
+fn four() -> (Vec<Vec<u8>>, Vec<Vec<u8>>) {
+    let reads = (0..4).map(|tag| bytes_of(&[0x8001_0020 | tag, 4 * tag])).collect();
+    let answers = (0..4).map(|tag| bytes_of(&[0x8001_0030 | tag, 0xB000 + tag])).collect();
+    (reads, answers)
+}
+
+#[test]
+fn a_sender_keeps_four_messages_and_hands_outcomes_out_in_order() {
+    let (reads, answers) = four();
+    let pair = |k: usize| (reads[k].clone(), answers[k].clone());
+    let mut sender = Sender::fresh();
+    for (tag, read) in reads.iter().enumerate() {
+        assert_eq!(sender.new_tag(), tag as u32);
+        sender.offer(read).unwrap();
+    }
+    assert_eq!(sender.offer(&bytes_of(&[0x8000_0004])), refused(36));
+    assert_eq!((sender.waiting(), sender.new_tag()), (4, 4));
+    assert_eq!(outcomes(&mut sender, &answers[3]), []);
+    assert_eq!(outcomes(&mut sender, &answers[1]), []);
+    assert_eq!(sender.unanswered().collect::<Vec<u32>>(), [0, 2]);
+    assert_eq!(sender.send(1), refused(31), "answered");
+    assert_eq!(sender.take(&answers[1]), refused(33), "and so is its answer once more");
+    assert_eq!(sender.send(2), Ok(reads[2].as_slice()));
+    assert_eq!(sender.waiting(), 4, "an answered one waits for those before it");
+    assert_eq!(outcomes(&mut sender, &answers[0]), [pair(0), pair(1)]);
+    assert_eq!((sender.waiting(), sender.new_tag()), (2, 4));
+    let nop = bytes_of(&[0x8000_0004]);
+    sender.offer(&nop).unwrap();
+    assert_eq!(sender.unanswered().collect::<Vec<u32>>(), [2, 4]);
+    assert_eq!(outcomes(&mut sender, &answers[2]), [pair(2), pair(3)]);
+    let done = bytes_of(&[0x8000_0034]);
+    assert_eq!(outcomes(&mut sender, &done), [(nop, done)]);
+    assert_eq!((sender.waiting(), sender.new_tag()), (0, 5));
+}
+
+/// All four at once, the tags past 15, and what each tells.
+#[test]
+fn four_outcomes_at_once() {
+    let (mut controller, mut memory) = (Controller::fresh(), [0; 8]);
+    for tag in 0..14 {
+        controller.serve(&mut memory, &bytes_of(&[0x8000_0000 | tag])).unwrap();
+    }
+    let answer = controller.serve(&mut memory, &Sender::discovery()).unwrap();
+    let mut sender = Sender::discovered(answer).unwrap();
+    for number in [11, 12, 13, 14] {
+        let write = [0x8001_0F10 | sender.new_tag(), 4 * (number % 8), number];
+        sender.offer(&bytes_of(&write)).unwrap();
+    }
+    let tags: Vec<u32> = sender.unanswered().collect();
+    assert_eq!(tags, [14, 15, 0, 1]);
+    let serve = |tag: &u32| controller.serve(&mut memory, sender.send(*tag)?).map(<[u8]>::to_vec);
+    let answers: Vec<Vec<u8>> = tags.iter().map(serve).collect::<Result<_, _>>().unwrap();
+    for answer in answers[1..].iter().rev() {
+        assert_eq!(sender.take(answer).unwrap().len(), 0);
+    }
+    let outcomes = sender.take(&answers[0]).unwrap();
+    assert_eq!(outcomes.len(), 4);
+    assert!(outcomes.map(|outcome| outcome.status(0)).eq([Some(Status::Ok); 4]));
+    assert_eq!((sender.new_tag(), &memory[3..7]), (2, &[11, 12, 13, 14][..]));
 }
 
 #[test]
 fn a_shorter_message_after_a_longer_one() {
     let mut sender = Sender::fresh();
     sender.offer(&bytes_of(&READS)).unwrap();
-    sender.take(&bytes_of(&ANSWER)).unwrap();
-    let nop = bytes_of(&[0x8000_0001]);
-    sender.offer(&nop).unwrap();
-    assert_eq!(sender.send(), Ok(nop.as_slice()));
+    outcomes(&mut sender, &bytes_of(&ANSWER));
+    for tag in 1..=4 {
+        let (nop, done) = (bytes_of(&[0x8000_0000 | tag]), bytes_of(&[0x8000_0030 | tag]));
+        sender.offer(&nop).unwrap();
+        assert_eq!(sender.send(tag), Ok(nop.as_slice()));
+        assert_eq!(outcomes(&mut sender, &done), [(nop, done)], "tag 4 at the place of tag 0");
+    }
 }
 
 #[test]
@@ -154,9 +234,11 @@ fn a_sender_goes_on_where_the_controller_is() {
     let mut controller = Controller::fresh();
     let answer = controller.serve(&mut memory, &Sender::discovery()).unwrap();
     assert_eq!(Sender::discovered(answer), Ok(Sender::fresh()));
-    controller.serve(&mut memory, &bytes_of(&[0x8001_0F1E, 4, 1])).unwrap();
+    for tag in 0..15 {
+        controller.serve(&mut memory, &bytes_of(&[0x8001_0F10 | tag, 4, 1])).unwrap();
+    }
     let answer = controller.serve(&mut memory, &Sender::discovery()).unwrap();
-    assert_eq!(Sender::discovered(answer).unwrap().next_tag(), 15);
+    assert_eq!(Sender::discovered(answer).unwrap().new_tag(), 15);
     assert_eq!(Sender::discovered(&[]), refused(32));
     assert_eq!(Sender::discovered(&bytes_of(&[0x8002_00B0, 0, 32])), refused(38));
 }

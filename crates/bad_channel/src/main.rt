@@ -1,8 +1,9 @@
-// A bad night between the two ends, on their real functions: each message is sent and lost, sent again, comes twice,
-// and late once more; a discovery comes in between, and its answer and old answers reach the sender. Eighteen messages,
-// so that tags go past 15. Prints what each call gave, and the memory at the end.
-use building::asked::Asked;
-use building::build;
+// A bad night between the two ends, on their real functions, with four messages in flight. A round offers four
+// messages, and a fifth, which is refused. The first sends are lost; then two messages come early, all four arrive,
+// each comes again, older ones come late, and a discovery comes. The answers come back crossed, with old ones in
+// between. The fifth is offered again when two have ended, and the last answer ends three. Five rounds, 25 messages:
+// tags go past 15, once with four in flight. Prints what each call gave, the outcomes in order of tag, and the memory
+// at the end.
 use completer::serving;
 use completer::serving::Served;
 use header::limits;
@@ -10,25 +11,21 @@ use header::refusal::Refusal;
 use initiator::outcome;
 use initiator::sender;
 use initiator::sender::Sender;
+use initiator::sender::Taken;
 use message::discovery;
+use messages::Bytes;
 use tags::record::TagRecord;
 
-const MESSAGES: u32 = 18;
+mod messages;
+mod round;
 
-const WRITE: u32 = 1;
-
-const READ: u32 = 2;
-
-// A message or an answer: the first n of some bytes.
-struct Bytes {
-    bytes: [u8; limits::LIMIT_BYTES],
-    n: usize,
-}
+// Five rounds.
+const STEPS: u32 = 5 * round::STEPS;
 
 struct Controller {
     memory: [u32; 8],
-    stored: [u32; limits::LIMIT],
-    kept: [u8; limits::LIMIT_BYTES],
+    stored: [u32; TagRecord::STORED],
+    kept: [u8; TagRecord::KEPT],
     tags: TagRecord,
 }
 
@@ -38,62 +35,13 @@ struct Arrived {
     answer: Bytes,
 }
 
-// The two ends, and the answer to the message before.
+// The two ends, the last answer to a message of each place, and how many messages have ended,
+// modulo 256.
 struct Ends {
     sender: Sender,
     controller: Controller,
-    before: Bytes,
-}
-
-// Message i asks: two of three write a word that says their number, the third reads the word before.
-fn asked(i: u32) -> Asked {
-    let word = if i % 3 == 2 { i % 8 + 7 } else { i };
-    Asked {
-        address: (4 * (word % 8)) as u64,
-        first: 15,
-        last: 0,
-        count: 1,
-    }
-}
-
-fn compose(i: u32) -> Bytes {
-    let mut bytes = [0u8; limits::LIMIT_BYTES];
-    let kind = if i % 3 == 2 { READ } else { WRITE };
-    let begun = build::begin(&bytes, kind, i % 16, false, false);
-    let words = [3235774464 + i % 256];
-    let added = build::add(&mut bytes, begun.building, asked(i), &words);
-    let closed = build::close(&mut bytes, added.building);
-    let b = closed.building;
-    if b.words > limits::LIMIT {
-        return Bytes { bytes, n: 0 };
-    }
-    let n = 4 * b.words;
-    Bytes { bytes, n }
-}
-
-// What comes to an end, by its place in the text.
-const DISCOVERY: usize = 0;
-
-const ITS_ANSWER: usize = 1;
-
-const OLD_ANSWER: usize = 2;
-
-const ARRIVES: usize = 3;
-
-const AGAIN: usize = 4;
-
-const ANSWER: usize = 5;
-
-fn say(i: usize) {
-    show::line(
-        b"discovery
-its answer
-old answer
-arrives
-again
-answer",
-        i,
-    );
+    answers: [Bytes; 4],
+    done: u8,
 }
 
 fn say_served(served: Served) {
@@ -103,8 +51,38 @@ fn say_served(served: Served) {
     show::say(b":");
 }
 
+// A refusal, and the sender then: its next tag, how many wait, and which of the three younger ones are answered.
+fn say_sender(refusal: Refusal, s: Sender) {
+    show::number(b": refusal ", refusal.number as u64);
+    show::number(b", next ", s.next as u64);
+    show::number(b", waiting ", s.waiting as u64);
+    show::number(b", answered ", s.second as u64);
+    show::number(b" ", s.third as u64);
+    show::number(b" ", s.fourth as u64);
+}
+
+// Message i is offered, and sent; that send is lost.
+fn offer(s: Sender, i: u32) -> Sender {
+    let message = messages::compose(i);
+    let bytes = message.bytes;
+    let lent = show::front(&bytes, message.n);
+    let moved = sender::offer(s, lent);
+    let then = moved.sender;
+    say_sender(moved.refusal, then);
+    show::say(b", sends");
+    show::bytes(sender::send(then, lent));
+    then
+}
+
+// The same, in the night.
+fn offers(mut ends: Ends, i: u32) -> Ends {
+    let s = offer(ends.sender, i);
+    ends.sender = s;
+    ends
+}
+
 // A datagram comes to the controller.
-fn arrives(c: Controller, datagram: &[u8]) -> Arrived {
+fn serves(c: Controller, datagram: &[u8]) -> Arrived {
     let mut memory = c.memory;
     let mut stored = c.stored;
     let mut kept = c.kept;
@@ -132,121 +110,138 @@ fn arrives(c: Controller, datagram: &[u8]) -> Arrived {
     }
 }
 
-fn say_data(message: &[u8], answer: &[u8]) {
-    show::number(b", answered ", outcome::answered(message, answer) as u64);
+// The answer to message i.
+fn answer_of(answers: [Bytes; 4], i: u32) -> Bytes {
+    answers[(i % 4) as usize]
+}
+
+// The answers with that to message i, where it is one.
+fn with_answer(answers: [Bytes; 4], i: u32, answer: Bytes) -> [Bytes; 4] {
+    let mut then = answers;
+    if answer.n > 0 {
+        then[(i % 4) as usize] = answer;
+    }
+    then
+}
+
+// A datagram of message i comes to the controller.
+fn arrives(mut ends: Ends, i: u32, datagram: &[u8]) -> Ends {
+    let arrived = serves(ends.controller, datagram);
+    let controller = arrived.controller;
+    ends.controller = controller;
+    let before = ends.answers;
+    let answers = with_answer(before, i, arrived.answer);
+    ends.answers = answers;
+    ends
+}
+
+// Message i, which waits, is sent and arrives.
+fn sends(ends: Ends, i: u32) -> Ends {
+    let message = messages::compose(i);
+    let bytes = message.bytes;
+    let datagram = sender::send(ends.sender, show::front(&bytes, message.n));
+    arrives(ends, i, datagram)
+}
+
+// What was sent of message i comes late.
+fn late(ends: Ends, i: u32) -> Ends {
+    let message = messages::compose(i);
+    let bytes = message.bytes;
+    arrives(ends, i, show::front(&bytes, message.n))
+}
+
+// The outcome of message i.
+fn tell(answers: [Bytes; 4], i: u32) {
+    let message = messages::compose(i);
+    let bytes = message.bytes;
+    let request = show::front(&bytes, message.n);
+    let answer = answer_of(answers, i);
+    let back = answer.bytes;
+    let answer = show::front(&back, answer.n);
+    show::number(b"outcome ", i as u64);
+    show::number(b": answered ", outcome::answered(request, answer) as u64);
     show::say(b", data");
-    show::bytes(outcome::read_data(message, answer, 0));
+    show::bytes(outcome::read_data(request, answer, 0));
 }
 
-fn say_refusal(refusal: Refusal, next: u32) {
-    show::number(b": refusal ", refusal.number as u64);
-    show::number(b", next ", next as u64);
-}
-
-// An answer comes to the sender.
-fn back(s: Sender, message: &[u8], answer: &[u8]) -> Sender {
-    let moved = sender::take(s, message, answer);
-    let then = moved.sender;
-    say_refusal(moved.refusal, then.next);
-    if then.waits {
-        show::say(b", waiting\n");
-        return then;
+// The outcomes of the messages that ended, the oldest first.
+fn tell_all(answers: [Bytes; 4], first: u8, ended: u8) {
+    let mut j = 0;
+    while j < ended {
+        tell(answers, first as u32 + j as u32);
+        j += 1;
     }
-    say_data(message, answer);
-    then
 }
 
-fn comes_back(s: Sender, message: &[u8], answer: Bytes) -> Sender {
-    let bytes = answer.bytes;
-    back(s, message, show::front(&bytes, answer.n))
+// An answer comes to the sender, to which message `lent` is lent.
+fn take(s: Sender, lent: u32, answer: Bytes) -> Taken {
+    let message = messages::compose(lent);
+    let bytes = message.bytes;
+    let back = answer.bytes;
+    sender::take(
+        s,
+        show::front(&bytes, message.n),
+        show::front(&back, answer.n),
+    )
 }
 
-// Message i is offered and sent; that send is lost.
-fn offered(s: Sender, message: &[u8], i: u32) -> Sender {
-    let moved = sender::offer(s, message);
-    let refusal = moved.refusal;
-    let then = moved.sender;
-    show::number(b"message ", i as u64);
-    show::number(b" offered: refusal ", refusal.number as u64);
-    show::say(b"\nsent and lost:");
-    show::bytes(sender::send(then, message));
-    then
+fn say_taken(taken: Taken) {
+    say_sender(taken.refusal, taken.sender);
+    show::number(b", ended ", taken.ended as u64);
+    show::say(b"\n");
 }
 
-// A discovery comes, and its answer.
-fn discovered(c: Controller) -> Arrived {
+// The same, in the night, and the outcomes of the messages that end.
+fn takes(mut ends: Ends, lent: u32, answer: Bytes) -> Ends {
+    let taken = take(ends.sender, lent, answer);
+    say_taken(taken);
+    let answers = ends.answers;
+    tell_all(answers, ends.done, taken.ended);
+    let s = taken.sender;
+    ends.sender = s;
+    ends.done = ((ends.done as u32 + taken.ended as u32) % 256) as u8;
+    ends
+}
+
+// The answer to message i comes to the sender.
+fn comes_back(ends: Ends, lent: u32, i: u32) -> Ends {
+    let answers = ends.answers;
+    takes(ends, lent, answer_of(answers, i))
+}
+
+// A discovery comes, and its answer comes to the sender.
+fn discovers(mut ends: Ends, lent: u32) -> Ends {
     let asks = discovery::bytes();
-    say(DISCOVERY);
-    arrives(c, &asks)
+    let arrived = serves(ends.controller, &asks);
+    let controller = arrived.controller;
+    ends.controller = controller;
+    show::say(b"its answer");
+    takes(ends, lent, arrived.answer)
 }
 
-// What was sent of an older message comes late.
-fn late(c: Controller, i: u32, behind: u32) -> Controller {
+// A step, in which message i comes. An answer to no message that waits comes with the oldest lent.
+fn play(ends: Ends, step: u32, i: u32) -> Ends {
+    let oldest = ends.done as u32;
+    match step {
+        0..=4 | 24 => offers(ends, i),
+        5 | 23 => comes_back(ends, oldest, i),
+        6..=15 | 25 => sends(ends, i),
+        16..=17 => late(ends, i),
+        18 => discovers(ends, oldest),
+        _ => comes_back(ends, i, i),
+    }
+}
+
+// Step t of the night. No message comes that is older than the first.
+fn step(ends: Ends, t: u32) -> Ends {
+    let step = t % round::STEPS;
+    let behind = round::behind(step);
+    let i = 5 * (t / round::STEPS) + round::ahead(step);
     if i < behind {
-        return c;
+        return ends;
     }
-    let old = compose(i - behind);
-    let bytes = old.bytes;
-    show::number(b"from ", behind as u64);
-    show::say(b" before");
-    let arrived = arrives(c, show::front(&bytes, old.n));
-    arrived.controller
-}
-
-// The answer to the message before comes once more, where there was one.
-fn again(s: Sender, message: &[u8], before: Bytes) -> Sender {
-    if before.n == 0 {
-        return s;
-    }
-    say(OLD_ANSWER);
-    comes_back(s, message, before)
-}
-
-// Message i waits: its first send is lost, a discovery comes, and its answer and the answer to the message before reach
-// the sender.
-fn evening(ends: Ends, message: &[u8], i: u32) -> Ends {
-    let s = offered(ends.sender, message, i);
-    let arrived = discovered(ends.controller);
-    let controller = arrived.controller;
-    say(ITS_ANSWER);
-    let s = comes_back(s, message, arrived.answer);
-    let before = ends.before;
-    let s = again(s, message, before);
-    Ends {
-        sender: s,
-        controller,
-        before,
-    }
-}
-
-// What is sent comes twice, and sends of the message before and of the fourteenth before come late.
-fn arrivals(c: Controller, datagram: &[u8], i: u32) -> Arrived {
-    say(ARRIVES);
-    let first = arrives(c, datagram);
-    say(AGAIN);
-    let second = arrives(first.controller, datagram);
-    let answer = second.answer;
-    let controller = late(late(second.controller, i, 1), i, 14);
-    Arrived { controller, answer }
-}
-
-// Message i.
-fn part(ends: Ends, i: u32) -> Ends {
-    let composed = compose(i);
-    let bytes = composed.bytes;
-    let message = show::front(&bytes, composed.n);
-    let ends = evening(ends, message, i);
-    let s = ends.sender;
-    let arrived = arrivals(ends.controller, sender::send(s, message), i);
-    let controller = arrived.controller;
-    let before = arrived.answer;
-    say(ANSWER);
-    let s = comes_back(s, message, before);
-    Ends {
-        sender: s,
-        controller,
-        before,
-    }
+    round::say(step, i - behind);
+    play(ends, step, i - behind)
 }
 
 fn dusk() -> Ends {
@@ -254,32 +249,27 @@ fn dusk() -> Ends {
         sender: Sender::fresh(),
         controller: Controller {
             memory: [0; 8],
-            stored: [0; limits::LIMIT],
-            kept: [0; limits::LIMIT_BYTES],
+            stored: [0; TagRecord::STORED],
+            kept: [0; TagRecord::KEPT],
             tags: TagRecord::fresh(),
         },
-        before: Bytes {
+        answers: [Bytes {
             bytes: [0; limits::LIMIT_BYTES],
             n: 0,
-        },
+        }; 4],
+        done: 0,
     }
 }
 
 // The night.
 fn night() -> Ends {
     let mut ends = dusk();
-    let mut i = 0;
-    while i < MESSAGES {
-        ends = part(ends, i);
-        i += 1;
+    let mut t = 0;
+    while t < STEPS {
+        ends = step(ends, t);
+        t += 1;
     }
     ends
-}
-
-fn say_end(next: u32, tag: u32) {
-    show::number(b"next ", next as u64);
-    show::number(b", stored ", tag as u64);
-    show::say(b"\n");
 }
 
 fn main() {
@@ -288,7 +278,4 @@ fn main() {
     let memory = c.memory;
     show::say(b"memory");
     show::words(&memory);
-    let s = ends.sender;
-    let tags = c.tags;
-    say_end(s.next, tags.tag);
 }

@@ -32,11 +32,12 @@ fn say_memory(memory: [u32; 8]) {
 }
 
 fn say_tags(tags: TagRecord) {
-    if tags.fresh {
+    if tags.held == 0 {
         show::say(b"; fresh\n");
         return;
     }
     show::number(b"; tag ", tags.tag as u64);
+    show::number(b", held ", tags.held as u64);
     show::say(b"\n");
 }
 

@@ -29,20 +29,19 @@ judged tags (Means r) = ruleOf tags (r .byte0)
 unfoldable pub asKept : List ℕ → List ℕ → Bool
 asKept request dg = same request dg
 
--- [7] "A repeat whose bytes differ from the kept request is refused as 12, after 11"
-abbrev pub heldTo : List ℕ → List ℕ → Verdict → Verdict
-heldTo request dg (RefusedBy r) = RefusedBy r
-heldTo request dg New = New
-heldTo request dg Repeat = cond (asKept request dg) Repeat (RefusedBy (refusal 12))
-heldTo request dg Discovery = Discovery
+-- [7] "A repeat whose bytes differ from the kept request is refused as 12, after 11": [9] from the one of its tag
+abbrev pub heldTo : List ℕ → TagRecord → List ℕ → Verdict → Verdict
+heldTo kept tags dg (RefusedBy r) = RefusedBy r
+heldTo kept tags dg New = New
+heldTo kept tags dg (Repeat tag) = cond (asKept (requestIn kept tags tag) dg) (Repeat tag) (RefusedBy (refusal 12))
+heldTo kept tags dg Discovery = Discovery
 
--- "Checks 1 and 2 come first. Then the commands are walked": by the lengths of memory, stored answer and output, and by
--- what is kept
+-- "Checks 1 and 2 come first. Then the commands are walked": by the lengths of memory, stored answers and output, and
+-- by what is kept
 unfoldable pub verdictBy : ℕ → ℕ → List ℕ → ℕ → TagRecord → List ℕ → Verdict
 verdictBy memory stored kept output tags dg =
     cond (lentOk memory output)
-    (cond (keptOk stored (length kept) tags) (heldTo (requestIn kept tags) dg (judged tags (read dg)))
-    (RefusedBy (refusal 1)))
+    (cond (keptOk stored (length kept) tags) (heldTo kept tags dg (judged tags (read dg))) (RefusedBy (refusal 1)))
     (RefusedBy (refusal 1))
 
 -- the same of a controller that is lent this output

@@ -1,14 +1,14 @@
 // The verdict on a datagram: turned away, new, a repeat or a discovery.
 ghost use mathlib.Core.Path.{_≡_};
 ghost use mathlib.Core.Bool.{true};
-ghost use Prim.Native.Nat.{_≤_};
+ghost use Prim.Native.Nat.{_*_, _≤_};
 ghost use lib.ListN.{length};
 ghost use Rattle.header.specs.Limits.{limit, limitBytes};
 ghost use Rattle.message.specs.Walk.{read};
-ghost use Rattle.tags.specs.Record.{recordOk};
+ghost use Rattle.tags.specs.declared.rule.Verdict.the-variants.{Repeat};
+ghost use Rattle.tags.specs.Record.{places, requestAt, recordOk};
 ghost use Rattle.completer.specs.Controller.{requestIn};
 ghost use Rattle.completer.specs.Verdict.{lentOk, judged, asKept, heldTo, verdictBy};
-ghost use Rattle.completer.specs.Settling.{repeatOf};
 use header::refusal::Refusal;
 use message::walk;
 use message::walk::Walked;
@@ -31,28 +31,18 @@ fn lent_ok(memory: usize, output: usize) -> bool
     output >= TagRecord::BYTES
 }
 
-// Whether a datagram's bytes are those of the kept request.
-fn same_request(kept: &[u8], tags: TagRecord, datagram: &[u8]) -> bool
-    requires { ⌜ tags .request ≤ limit ⌝ }
-    requires { ⌜ limitBytes ≤ length (now kept) ⌝ }
-    ensures { λ r. ⌜ r ≡ asKept (requestIn (now (kept .entry)) tags) (now (datagram .entry)) ⌝ }
+// Whether a datagram's bytes are those of the kept request of its tag.
+fn same_request(kept: &[u8], tags: TagRecord, tag: u32, datagram: &[u8]) -> bool
+    requires { ⌜ requestAt tags tag ≤ limit ⌝ }
+    requires { ⌜ places * limitBytes ≤ length (now kept) ⌝ }
+    ensures { λ r. ⌜ r ≡ asKept (requestIn (now (kept .entry)) tags tag) (now (datagram .entry)) ⌝ }
 {
-    if datagram.len() != 4 * tags.request {
+    let words = record::request_at(tags, tag);
+    if datagram.len() != 4 * words {
         return false;
     }
-    run::same_words(kept, datagram, tags.request)
-}
-
-// Whether a verdict is a repeat.
-fn is_repeat(verdict: Verdict) -> bool
-    ensures { λ r. ⌜ r ≡ repeatOf verdict ⌝ }
-{
-    match verdict {
-        Verdict::Refused(_) => false,
-        Verdict::New => false,
-        Verdict::Repeat => true,
-        Verdict::Discovery => false,
-    }
+    let at = TagRecord::BYTES * record::place(tag);
+    run::same_words(&kept[at..], datagram, words)
 }
 
 // The verdict on any datagram where what is lent is right, before its bytes are compared: 2 to 10, then by the tag.
@@ -67,21 +57,32 @@ fn judge(tags: TagRecord, datagram: &[u8]) -> Verdict
     }
 }
 
-// The verdict where what is lent is right: a repeat has to be the kept request.
+// The verdict on a repeat of a tag that is held: it has to be the kept request of that tag.
+fn hold_repeat(kept: &[u8], tags: TagRecord, tag: u32, datagram: &[u8]) -> Verdict
+    requires { ⌜ requestAt tags tag ≤ limit ⌝ }
+    requires { ⌜ places * limitBytes ≤ length (now kept) ⌝ }
+    ensures { λ r. ⌜ r ≡ heldTo (now (kept .entry)) tags (now (datagram .entry)) (Repeat tag) ⌝ }
+{
+    if same_request(kept, tags, tag, datagram) {
+        return Verdict::Repeat(tag);
+    }
+    Verdict::Refused(Refusal::of(Refusal::OTHER_BYTES))
+}
+
+// The verdict where what is lent is right: a repeat is held to what is kept.
 fn hold(kept: &[u8], tags: TagRecord, datagram: &[u8]) -> Verdict
     requires { ⌜ recordOk tags ≡ true ⌝ }
-    requires { ⌜ limitBytes ≤ length (now kept) ⌝ }
-    ensures { λ r. ⌜ r ≡ heldTo (requestIn (now (kept .entry)) tags) (now (datagram .entry))
+    requires { ⌜ places * limitBytes ≤ length (now kept) ⌝ }
+    ensures { λ r. ⌜ r ≡ heldTo (now (kept .entry)) tags (now (datagram .entry))
         (judged tags (read (now (datagram .entry)))) ⌝ }
 {
     let verdict = judge(tags, datagram);
-    if !is_repeat(verdict) {
-        return verdict;
+    match verdict {
+        Verdict::Refused(refusal) => Verdict::Refused(refusal),
+        Verdict::New => Verdict::New,
+        Verdict::Repeat(tag) => hold_repeat(kept, tags, tag, datagram),
+        Verdict::Discovery => Verdict::Discovery,
     }
-    if same_request(kept, tags, datagram) {
-        return verdict;
-    }
-    Verdict::Refused(Refusal::of(Refusal::OTHER_BYTES))
 }
 
 // The verdict on any datagram, whatever is lent.

@@ -17,7 +17,8 @@ pub struct Sent {
 }
 
 // One datagram served, for any buffers, any record and any bytes; the record then holds what the call by value gives.
-// The kept request stands before the stored answer: the compiler's registers are best in that order.
+// It is looked at where it lies and follows at the end, so that its ten numbers are not carried through the call. The
+// kept requests stand before the stored answers: the compiler's registers are best in that order.
 #[no_mangle]
 pub extern "C" fn charkhavo_serve(
     memory: &mut [u32],
@@ -33,10 +34,10 @@ pub extern "C" fn charkhavo_serve(
         (lent (now (memory .entry)) (now (stored .entry)) (now (kept .entry)) (now (tags .entry))) (now (output .entry))
         (now (datagram .entry)) ⌝ }
 {
-    let served = serving::serve(memory, stored, kept, output, *tags, datagram);
-    *tags = served.tags;
+    let done = serving::dispatch(memory, stored, kept, output, *tags, datagram);
+    *tags = serving::follow(*tags, done);
     Sent {
-        refusal: served.refusal,
-        sent: served.sent,
+        refusal: done.refusal,
+        sent: done.sent,
     }
 }

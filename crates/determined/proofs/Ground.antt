@@ -89,8 +89,11 @@ in-tags =
     record {
       fresh = λ M 𝓤 H A mem run κs a g one other. one-of 𝓤;
       mark = λ M 𝓤 H A mem run κs a g one other. one-of 𝓤;
+      place = λ M 𝓤 H A mem run κs a g one other. first-of 𝓤;
       record-ok = λ M 𝓤 H A mem run κs a g one other. one-of 𝓤;
       kept-ok = λ M 𝓤 H A mem run κs a g one other. one-of 𝓤;
+      words-at = λ M 𝓤 H A mem run κs a g one other. one-of 𝓤;
+      request-at = λ M 𝓤 H A mem run κs a g one other. one-of 𝓤;
       record-after = λ M 𝓤 H A mem run κs a g one other. one-of 𝓤;
       rule = λ M 𝓤 H A mem run κs a g one other. one-of 𝓤;
     }

@@ -8,6 +8,8 @@ pub controlling : Controlling
 controlling =
     record {
       verdict-of = λ M 𝓤 H A mem run κs a g one other. one-of 𝓤;
+      dispatch = λ M 𝓤 H A mem run κs a g one other. one-of 𝓤;
+      follow = λ M 𝓤 H A mem run κs a g one other. one-of 𝓤;
       serve = λ M 𝓤 H A mem run κs a g one other. one-of 𝓤;
       in-place = λ M 𝓤 H A mem run κs a g one other. one-of 𝓤;
     }

@@ -57,8 +57,11 @@ use Rattle.memory.proofs.moves.store_all as StoreAll
 use Rattle.carrying.proofs.carry.carry as Carry
 use Rattle.tags.proofs.record.TagRecord.fresh as FreshTags
 use Rattle.tags.proofs.record.mark as Mark
+use Rattle.tags.proofs.record.place as Place
 use Rattle.tags.proofs.record.record_ok as RecordOk
 use Rattle.tags.proofs.record.kept_ok as KeptOk
+use Rattle.tags.proofs.record.words_at as WordsAt
+use Rattle.tags.proofs.record.request_at as RequestAt
 use Rattle.tags.proofs.record.record_after as RecordAfter
 use Rattle.tags.proofs.rule.rule as Rule
 
@@ -138,7 +141,10 @@ pub record InCarrying : Type 2 where
 pub record InTags : Type 2 where
   pub fresh : Determined FreshTags.ended (λ M. FreshTags.clauses) (λ κs r e. r)
   pub mark : Determined Mark.ended (λ M. Mark.clauses) (λ κs r e. r)
+  pub place : Determined Place.ended (λ M. Place.clauses) (λ κs r e. r)
   pub record-ok : Determined RecordOk.ended (λ M. RecordOk.clauses) (λ κs r e. r)
   pub kept-ok : Determined KeptOk.ended (λ M. KeptOk.clauses) (λ κs r e. r)
+  pub words-at : Determined WordsAt.ended (λ M. WordsAt.clauses) (λ κs r e. r)
+  pub request-at : Determined RequestAt.ended (λ M. RequestAt.clauses) (λ κs r e. r)
   pub record-after : Determined RecordAfter.ended (λ M. RecordAfter.clauses) (λ κs r e. r)
   pub rule : Determined Rule.ended (λ M. Rule.clauses) (λ κs r e. r)

@@ -14,7 +14,10 @@ use denote.Ref.{now}
 use denote.Triple.Entry.{Args, Res}
 use denote.Triple.Clauses.{Ended, AtExit, Clauses}
 use Rattle.completer.specs.Controller.{lent, left}
+use Rattle.completer.specs.Settling.{follows}
 use Rattle.completer.proofs.verdict.verdict_of as VerdictOf
+use Rattle.completer.proofs.serving.dispatch as Dispatch
+use Rattle.completer.proofs.serving.follow as Follow
 use Rattle.completer.proofs.serving.serve as Serve
 use Rattle.controller.proofs.charkhavo_serve as ServeInPlace
 use Rattle.building.proofs.build.begin as Begin
@@ -55,25 +58,37 @@ Contract T = (M : Type 1) (𝓤 : URA M) (H : Heap 𝓤) → Atoms 𝓤 → (Mem
 
 -- Any two results allowed for one input are equal. The input is a, all arguments at entry; a result is what is
 -- returned, r, and the parameters at exit, e, of which `back` takes what each buffer and record that may be changed
--- then holds.
-abbrev pub Determined : (T : Ended) → Contract T → {O : Type 0}
-    → ((κs : Lfts (T .signature .lifetimes)) → Res (T .signature) κs → AtExit T κs → O) → Type 2
-Determined T contract back =
+-- then holds. `Determined` is of a `back` that does not look at the input.
+abbrev pub DeterminedWith : (T : Ended) → Contract T → {O : Type 0}
+    → ((κs : Lfts (T .signature .lifetimes)) → Args (T .signature) κs → Res (T .signature) κs → AtExit T κs → O)
+    → Type 2
+DeterminedWith T contract back =
     (M : Type 1) (𝓤 : URA M) (H : Heap 𝓤) (A : Atoms 𝓤) (mem : Memory → SProp 𝓤) (run : Routine → Fun 𝓤)
     (κs : Lfts (T .signature .lifetimes)) (a : Args (T .signature) κs) (g : contract M 𝓤 H A mem run κs a .ghost)
     (one other : Res (T .signature) κs × AtExit T κs)
     → ent 𝓤
     (conj 𝓤 (contract M 𝓤 H A mem run κs a .ensures g (one .0) (one .1))
     (contract M 𝓤 H A mem run κs a .ensures g (other .0) (other .1)))
-    (fact 𝓤 (back κs (one .0) (one .1) ≡ back κs (other .0) (other .1)))
+    (fact 𝓤 (back κs a (one .0) (one .1) ≡ back κs a (other .0) (other .1)))
+
+abbrev pub Determined : (T : Ended) → Contract T → {O : Type 0}
+    → ((κs : Lfts (T .signature .lifetimes)) → Res (T .signature) κs → AtExit T κs → O) → Type 2
+Determined T contract back = DeterminedWith T contract (λ κs a r e. back κs r e)
 
 -- what is returned, and what the output then holds
 abbrev pub beside : {A B : Type 0} → A → B → A × B
 beside r output = (r, output)
 
--- The controller: the refusal, the bytes sent, memory, stored answer, kept request, record and output, all of them.
+-- The controller: the refusal, the bytes sent, memory, stored answers, kept requests, record and output, all of them.
+-- `dispatch` gives no record: it is the one that `follow` makes of what it gives and of the record that came in. Where
+-- nothing is kept, `follow` does not look at the three numbers beside it, and they are open.
 pub record Controlling : Type 2 where
   pub verdict-of : Determined VerdictOf.ended (λ M. VerdictOf.clauses) (λ κs r e. r)
+  pub dispatch :
+      DeterminedWith Dispatch.ended (λ M. Dispatch.clauses)
+      (λ κs a r e. left (r .refusal) (r .sent)
+      (lent (now (e .0)) (now (e .1 .0)) (now (e .1 .1 .0)) (follows (a .1 .1 .1 .1 .0) r)) (now (e .1 .1 .1 .0)))
+  pub follow : Determined Follow.ended (λ M. Follow.clauses) (λ κs r e. r)
   pub serve :
       Determined Serve.ended (λ M. Serve.clauses)
       (λ κs r e.

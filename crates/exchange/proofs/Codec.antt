@@ -105,6 +105,13 @@ module _ {d : List ℕ} (p : Plain d) {o : Outcome} {a : List ℕ} (h : Answers 
   pub own-judged : judgedBy (read d) a ≡ Means (h .items)
   own-judged = judged-by p a ∙ rw (← asked-is p) (encodes-judged (asked-fits p) (h .encodes))
 
+  -- it has the message's tag
+  pub own-tag : tagOf (getD a 0 0) ≡ tagOf (getD d 0 0)
+  own-tag =
+      let j = encodes-judged (asked-fits p) (h .encodes) in
+      ap tagOf (judged-headed (requestOf d) a (h .items) j .first) ∙ answer-tag (requestOf d .byte0)
+      ∙ ap (λ (r : Request). tagOf (r .byte0)) (asked-is p) ∙ ap tagOf (sym (first-is p))
+
   -- and tells its outcome
   pub own-told : told d a ≡ o
   unfolding told

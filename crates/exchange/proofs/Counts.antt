@@ -1,5 +1,5 @@
 -- How many commands an outcome has. Assumes nothing.
-use Prim.Native.Nat.{ℕ, zero, suc, _<_}
+use Prim.Native.Nat.{ℕ, suc, _<_}
 use mathlib.Core.Path.{_≡_, refl, sym, ap, _∙_}
 use mathlib.Core.Bool.{Bool, true, false, cond, false≢true}
 use mathlib.Core.List.{List, [], _∷_, _++_}
@@ -16,19 +16,15 @@ use Rattle.memory.proofs.Laws.Moving.{length-after}
 use Rattle.memory.proofs.Laws.Promises.{carried-more}
 use Rattle.carrying.specs.Answers.{answers, answerTo}
 use Rattle.carrying.proofs.Laws.Promises.{answers-none, answers-more, answer-to}
-use Rattle.exchange.specs.Outcomes.{each, told, resultsIn, outcomeOver}
+use Rattle.exchange.specs.Outcomes.{told, resultsIn, outcomeOver}
 use Rattle.exchange.specs.Promise.{UpToError, ToldCounts}
+use Rattle.exchange.proofs.Each.{each-long}
 
 -- as many results as answers
 results-long : (kind : Kind) (items : List Answered) → length (resultsIn kind items) ≡ length items
 unfolding resultsIn
 results-long kind [] = refl
 results-long kind (a ∷ more) = ap suc (results-long kind more)
-
-each-long : {A : Type 0} (n : ℕ) (f : ℕ → A) → length (each n f) ≡ n
-unfolding each
-each-long zero f = refl
-each-long (suc n) f = ap suc (each-long n (λ k. f (suc k)))
 
 pub told-counts : ToldCounts
 unfolding told

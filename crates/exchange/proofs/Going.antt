@@ -1,18 +1,19 @@
 -- What the controller's call goes by: check 1 passed, the verdict by the rule of tags, and the answer that it gives. Assumes nothing.
-use Prim.Native.Nat.{ℕ, _<_, _≤_}
+use Prim.Native.Nat.{ℕ, zero, suc, _+_, _%_, _<_, _≤_}
 use mathlib.Core.Path.{_≡_, refl, sym, ap, _∙_}
 use mathlib.Core.Bool.{Bool, true, false, cond}
-use mathlib.Core.Option.{Option, none, some, Option·some-injective}
+use mathlib.Core.Option.{some}
 use mathlib.Core.List.{List, [], _∷_}
 use native.Mathlib.Omega.{arith}
+use borrow.Author.Tests.{eqb-true, eqb-false, eq-eqb, ne-eqb}
 use lib.Dec.{eqb}
-use lib.ListN.{length, getD, take}
+use lib.ListN.{length, getD, getElem?}
 use Rattle.word.specs.Words.{bytesOf}
 use Rattle.word.proofs.Runs.{length-bytes}
 use Rattle.header.specs.declared.Kind.{Kind}
 use Rattle.header.specs.declared.Kind.the-variants.{Nop, Write, Read, Response}
 use Rattle.header.specs.Limits.{limit}
-use Rattle.header.specs.Header.{tagOf, discoveryOf, nextTag}
+use Rattle.header.specs.Header.{tagOf}
 use Rattle.header.specs.Refusal.{refusal}
 use Rattle.header.proofs.Laws.Limits.{right}
 use Rattle.message.specs.Request.{Command, Request, Fits}
@@ -25,20 +26,20 @@ use Rattle.carrying.specs.Answers.{okWords, done, failed, answers, answerTo}
 use Rattle.carrying.proofs.Laws.Promises.{answers-none, answers-more, words-to, answer-fits}
 use Rattle.tags.specs.declared.rule.Verdict.{Verdict}
 use Rattle.tags.specs.declared.rule.Verdict.the-variants.{Refused, New, Repeat}
-use Rattle.tags.specs.Rule.{repeats, expected, ruleOf}
-use Rattle.tags.specs.Record.{markOf}
-use Rattle.tags.proofs.Laws.Record.{holds, rule-plain, repeats-fresh, repeats-by, expected-fresh, expected-by, mark-small, kept-ok}
+use Rattle.tags.specs.Rule.{expected}
+use Rattle.tags.specs.Record.{isFresh, back, holds, markOf}
+use Rattle.tags.proofs.Laws.Record.{held-room, held-back, back-held, rule-plain, expected-fresh, expected-by, mark-small, kept-ok}
 use Rattle.completer.specs.Verdict.{judged, heldTo}
 use Rattle.completer.specs.Serving.{answerBy, afterBy, after}
 use Rattle.completer.specs.Called.{allowed}
-use Rattle.completer.specs.Controller.{Controller, requestIn}
-use Rattle.completer.proofs.Laws.Called.{kept-self, lent-fits, called-by, answer-by}
+use Rattle.completer.specs.Controller.{Controller}
+use Rattle.completer.proofs.Laws.Called.{lent-fits, called-by, answer-by}
 use Rattle.initiator.specs.Outcome.{dataOf}
-use Rattle.once.specs.Tags as Tags
-use Rattle.once.specs.Tags.{new, again, late, verdict, tagIn}
-use Rattle.exchange.specs.Outcomes.{resultsIn}
+use Rattle.once.specs.Tags.{tagsIn, nextTag, Unlike, Back}
+use Rattle.exchange.specs.Outcomes.{each, resultsIn}
 use Rattle.exchange.specs.Terms.{Lendable, Sound}
-use Rattle.exchange.specs.Sight.{Plain, Encodes, storedBy}
+use Rattle.exchange.specs.Sight.{Plain, Encodes, storedAt, storedBy}
+use Rattle.exchange.proofs.Each.{each-at, each-in}
 use Rattle.exchange.proofs.Codec.{first-is, encodes-judged, judged-headed}
 
 -- word 1 of the advertisement is in no outcome
@@ -62,59 +63,124 @@ mark-free kind a b m (c ∷ cs) =
     go true e = refl
     go false e = rw (data-free kind a b m c, e)
 
--- the verdict, held to the kept request
-abbrev heldBy : Controller → List ℕ → Verdict → Verdict
-heldBy c x v = heldTo (requestIn (c .kept) (c .tags)) x v
-
 -- what an allowed controller is lent passes check 1
 module _ (c : Controller) (b : List ℕ) (h : Sound c) (l : Lendable b) where
   pub allowed-is : allowed c b ≡ true
   allowed-is = rw (lent-fits (length (c .memory)) (length b) (h .some) (h .most) l, kept-ok (length (c .stored)) (length (c .kept)) (c .tags) (h .stored) (h .kept) (h .tags))
 
   -- so the call goes by the verdict on the datagram
-  pub serving-is : (x : List ℕ) (v : Verdict) → judged (c .tags) (read x) ≡ v → after c b x ≡ afterBy (heldBy c x v) c b x
-  serving-is x v e = called-by c b x allowed-is (heldBy c x v) (ap (heldBy c x) e)
+  pub serving-is : (x : List ℕ) (v : Verdict) → judged (c .tags) (read x) ≡ v → after c b x ≡ afterBy (heldTo (c .kept) (c .tags) x v) c b x
+  serving-is x v e = called-by c b x allowed-is (heldTo (c .kept) (c .tags) x v) (ap (heldTo (c .kept) (c .tags) x) e)
 
--- the rule of tags is that of `once`
-abbrev ruled : Tags.Verdict → Verdict
-ruled new = New
-ruled again = Repeat
-ruled late = Refused (refusal 11)
+-- the tags of what f gives
+tags-in : {A : Type 0} (n : ℕ) (f : ℕ → ℕ × A) → tagsIn (each n f) ≡ each n (λ j. (f j) .0)
+unfolding each
+tags-in zero f = refl
+tags-in (suc n) f = ap (λ (l : List ℕ). (f 0) .0 ∷ l) (tags-in n (λ k. f (suc k)))
 
-rule-is : (c : Controller) (byte0 : ℕ) → discoveryOf byte0 ≡ false → ruleOf (c .tags) byte0 ≡ ruled (verdict (tagIn (storedBy c)) (tagOf byte0))
-rule-is c byte0 z = rule-plain (c .tags) byte0 z ∙ go (c .tags .fresh) refl
-  where
-    t : ℕ
-    t = tagOf byte0
+-- how far back twice
+back-back : (newest j : ℕ) → newest < 16 → j < 16 → back newest (back newest j) ≡ j
+back-back newest j n h = omega arith
 
-    by : (p q : Bool) → cond p Repeat (cond q New (Refused (refusal 11))) ≡ ruled (cond p again (cond q new late))
-    by true q = refl
-    by false true = refl
-    by false false = refl
+-- The tags that an allowed controller stores: how far back each is from the newest, and the next.
+module _ (c : Controller) (h : Sound c) where
+  tags-are : tagsIn (storedBy c) ≡ each (c .tags .held) (back (c .tags .tag))
+  tags-are = tags-in (c .tags .held) (storedAt c)
 
-    go : (f : Bool) → c .tags .fresh ≡ f
-        → cond (repeats (c .tags) t) Repeat (cond (expected (c .tags) t) New (Refused (refusal 11))) ≡ ruled (verdict (tagIn (storedBy c)) t)
-    go true f = rw (repeats-fresh (c .tags) t f, expected-fresh (c .tags) t f, f)
-    go false f = rw (repeats-by (c .tags) t f, expected-by (c .tags) t f, f) (by (eqb t (c .tags .tag)) (eqb t (nextTag (c .tags .tag))))
+  -- a record that holds some
+  pub filled : (j : ℕ) → j < c .tags .held → (isFresh (c .tags) ≡ false) × (c .tags .tag < 16) × (j < 4)
+  filled j l =
+      let f : isFresh (c .tags) ≡ false = ne-eqb (c .tags .held) 0 (λ (z : c .tags .held ≡ 0). omega arith) in
+      let r = held-room (c .tags) (h .tags) f in
+      (f, r .tag, omega (arith, r .few))
 
-pub judged-is : (c : Controller) {d : List ℕ} (p : Plain d) (v : Tags.Verdict) → verdict (tagIn (storedBy c)) (tagOf (getD d 0 0)) ≡ v → judged (c .tags) (read d) ≡ ruled v
-judged-is c {d} p v e =
-    ap (judged (c .tags)) (p .is) ∙ rule-is c (p .request .byte0) (p .clear) ∙ ap (λ n. ruled (verdict (tagIn (storedBy c)) (tagOf n))) (sym (first-is p)) ∙ ap ruled e
+  -- a fresh one stores none
+  pub none-stored : isFresh (c .tags) ≡ true → storedBy c ≡ []
+  unfolding each
+  none-stored f = rw (eqb-true (c .tags .held) 0 f)
 
--- a repeat of the kept request is let by
-pub repeats-it : (c : Controller) {d : List ℕ} (p : Plain d) → verdict (tagIn (storedBy c)) (tagOf (getD d 0 0)) ≡ again → requestIn (c .kept) (c .tags) ≡ d
-    → heldTo (requestIn (c .kept) (c .tags)) d (judged (c .tags) (read d)) ≡ Repeat
-repeats-it c {d} p e k = rw (judged-is c p again e, k, kept-self d)
+  pub next-fresh : isFresh (c .tags) ≡ true → nextTag (tagsIn (storedBy c)) ≡ 0
+  next-fresh f = rw (none-stored f)
 
--- a stored tag is at most 15
-pub stored-small : (c : Controller) (t : ℕ) (a : List ℕ) → Sound c → storedBy c ≡ some (t, a) → t < 16
-stored-small c t a h e = go (c .tags .fresh) refl e
-  where
-    go : (f : Bool) → c .tags .fresh ≡ f → cond {A = Option (ℕ × List ℕ)} f none (some (c .tags .tag, bytesOf (take (c .tags .words) (c .stored)))) ≡ some (t, a) → t < 16
-    go true z q = let n : _≡_ {A = ℕ} 0 1 = cc in absurd (omega arith)
-    go false z q =
-        let i = ap (λ (u : ℕ × List ℕ). u .0) (Option·some-injective _ _ q) in
-        omega (arith, holds (c .tags) (h .tags) z .tag, i)
+  pub next-held : isFresh (c .tags) ≡ false → nextTag (tagsIn (storedBy c)) ≡ (c .tags .tag + 1) % 16
+  unfolding each
+  next-held f = rw tags-are (go (c .tags .held) (eqb-false (c .tags .held) 0 f))
+    where
+      go : (n : ℕ) → (n ≡ 0 → ⊥) → nextTag (each n (back (c .tags .tag))) ≡ (c .tags .tag + 1) % 16
+      go zero z = absurd (z refl)
+      go (suc n) z = let l = held-room (c .tags) (h .tags) f .tag in omega arith
+
+  pub expected-is : (t : ℕ) → expected (c .tags) t ≡ eqb t (nextTag (tagsIn (storedBy c)))
+  expected-is t = go (isFresh (c .tags)) refl
+    where
+      go : (b : Bool) → isFresh (c .tags) ≡ b → expected (c .tags) t ≡ eqb t (nextTag (tagsIn (storedBy c)))
+      go true f = rw (expected-fresh (c .tags) t f, next-fresh f)
+      go false f = rw (expected-by (c .tags) t f, next-held f)
+
+  -- what is stored at a place is that far back
+  pub back-stored : (j u : ℕ) → getElem? (tagsIn (storedBy c)) j ≡ some u → (j < c .tags .held) × (back (c .tags .tag) j ≡ u)
+  back-stored j u e = each-in (c .tags .held) (back (c .tags .tag)) j u (ap (λ (l : List ℕ). getElem? l j) (sym tags-are) ∙ e)
+
+  pub goes-back : Back 4 (tagsIn (storedBy c))
+  goes-back j u e =
+      let r = back-stored j u e in
+      let f = filled j (r .0) in
+      let i = r .1 in
+      let n = next-held (f .0) in
+      (omega arith, f .2, omega (arith, f .1, f .2))
+
+  -- a tag that is held is stored, and one that is stored is held
+  pub held-stored : (t : ℕ) → t < 16 → holds (c .tags) t ≡ true → getElem? (tagsIn (storedBy c)) (back (c .tags .tag) t) ≡ some t
+  held-stored t s e =
+      let b = held-back (c .tags) t e in
+      let f = filled (back (c .tags .tag) t) (b .1) in
+      ap (λ (l : List ℕ). getElem? l (back (c .tags .tag) t)) tags-are
+      ∙ each-at (c .tags .held) (back (c .tags .tag)) (back (c .tags .tag) t) (b .1)
+      ∙ ap some (back-back (c .tags .tag) t (f .1) s)
+
+  pub newest-stored : (tag : ℕ) → isFresh (c .tags) ≡ false → c .tags .tag ≡ tag → getElem? (tagsIn (storedBy c)) 0 ≡ some tag
+  newest-stored tag f e =
+      let r = held-room (c .tags) (h .tags) f in
+      let some-held : 0 < c .tags .held = omega (arith, eqb-false (c .tags .held) 0 f) in
+      let i : back (c .tags .tag) 0 ≡ tag = omega (arith, r .tag) in
+      ap (λ (l : List ℕ). getElem? l 0) tags-are ∙ each-at (c .tags .held) (back (c .tags .tag)) 0 some-held ∙ ap some i
+
+  pub stored-held : (j : ℕ) → j < c .tags .held → holds (c .tags) (back (c .tags .tag) j) ≡ true
+  stored-held j l =
+      let f = filled j l in
+      back-held (c .tags) (back (c .tags .tag) j) (rw (back-back (c .tags .tag) j (f .1) (omega (arith, f .2))) l)
+
+  -- the verdict on a plain message, by its tag
+  module _ {d : List ℕ} (p : Plain d) where
+    abbrev t : ℕ
+    t = tagOf (getD d 0 0)
+
+    by-tag : (a b : Bool) → holds (c .tags) t ≡ a → expected (c .tags) t ≡ b → judged (c .tags) (read d) ≡ cond a (Repeat t) (cond b New (Refused (refusal 11)))
+    by-tag a b e f =
+        ap (judged (c .tags)) (p .is) ∙ rule-plain (c .tags) (p .request .byte0) (p .clear)
+        ∙ ap (λ (n : ℕ). cond (holds (c .tags) (tagOf n)) (Repeat (tagOf n)) (cond (expected (c .tags) (tagOf n)) New (Refused (refusal 11)))) (sym (first-is p))
+        ∙ rw (e, f)
+
+    pub is-again : holds (c .tags) t ≡ true → judged (c .tags) (read d) ≡ Repeat t
+    is-again e = by-tag true (expected (c .tags) t) e refl
+
+    pub is-new : t ≡ nextTag (tagsIn (storedBy c)) → (expected (c .tags) t ≡ true) × (judged (c .tags) (read d) ≡ New)
+    is-new e = let x = expected-is t ∙ eq-eqb t _ e in (x, by-tag false true (go (holds (c .tags) t) refl) x)
+      where
+        go : (b : Bool) → holds (c .tags) t ≡ b → holds (c .tags) t ≡ false
+        go false q = q
+        go true q =
+            let b = held-back (c .tags) t q in
+            let f = filled (back (c .tags .tag) t) (b .1) in
+            let n = next-held (f .0) in
+            absurd (omega (arith, f .1, f .2))
+
+    pub is-late : (t ≡ nextTag (tagsIn (storedBy c)) → ⊥) → Unlike (tagsIn (storedBy c)) t → judged (c .tags) (read d) ≡ Refused (refusal 11)
+    is-late n u = by-tag false false (go (holds (c .tags) t) refl) (expected-is t ∙ ne-eqb t _ n)
+      where
+        go : (b : Bool) → holds (c .tags) t ≡ b → holds (c .tags) t ≡ false
+        go false q = q
+        go true q = absurd (u _ (held-stored t (omega arith) q))
 
 -- the answer to a request that fits, over an allowed controller's memory
 module _ (c : Controller) (h : Sound c) (r : Request) (f : Fits r) where

@@ -1,16 +1,20 @@
 -- What proves it: Promise has the theorems, and Never those about 12. Facts: the two ends meet what `once` asks, from the facts about the
--- loader (Sender) and the controller (Controller, by what its call goes by: Going). Begins and Started: the two starts. Codec: what
--- crosses the channel. Counts: how many commands an outcome has. Example, the incident too, and Sharp compute, by the tests of Checked.
+-- loader (Sender and Taking, by what is lent to it: Waiting) and the controller (Controller, by what its call goes by: Going). Begins and Started: the
+-- two starts. Codec: what crosses the channel. Counts: how many commands an outcome has. Each: lists by places. Example, the incident too,
+-- and Sharp compute, by the tests of Checked.
 pub mod Promise
 pub mod Never
 pub mod Facts
 pub mod Sender
+pub mod Taking
+pub mod Waiting
 pub mod Controller
 pub mod Going
 pub mod Begins
 pub mod Started
 pub mod Codec
 pub mod Counts
+pub mod Each
 pub mod Example
 pub mod Sharp
 pub mod Checked

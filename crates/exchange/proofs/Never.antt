@@ -15,23 +15,23 @@ use Rattle.message.specs.Walk.{read}
 use Rattle.message.proofs.Laws.Going.{read-first}
 use Rattle.tags.specs.declared.rule.Verdict.{Verdict}
 use Rattle.tags.specs.declared.rule.Verdict.the-variants.{Refused, New, Repeat}
-use Rattle.tags.specs.Rule.{repeats, expected}
+use Rattle.tags.specs.Record.{back as backFrom, holds}
+use Rattle.tags.specs.Rule.{expected}
 use Rattle.tags.proofs.Laws.Record.{rule-plain}
 use Rattle.completer.specs.Controller.{Controller, requestIn, After}
 use Rattle.completer.specs.Verdict.{asKept, heldTo, judged}
 use Rattle.completer.specs.Serving.{accepts, afterBy, after}
 use Rattle.completer.proofs.Laws.Called.{kept-equal, called-by, twelve-exactly}
-use Rattle.once.specs.World.{Ends, message, stranger, Event, offer, send, arrive, back, other, World, sent, given, start, step}
+use Rattle.once.specs.World.{message, stranger, Event, offer, send, arrive, back, other, World, sent, given, start, step}
 use Rattle.once.specs.Promise.{Allowed}
-use Rattle.once.specs.Tags.{tagIn, Says}
+use Rattle.once.specs.Tags.{Says}
 use Rattle.once.proofs.Runs.{always-append}
-use Rattle.once.proofs.Tagged.{tagged-says}
 use Rattle.exchange.specs.Ends.{Loader, ends}
 use Rattle.exchange.specs.Terms.{Finds, findsOnly, terms}
-use Rattle.exchange.specs.Sight.{storedBy, sight}
-use Rattle.exchange.specs.Promise.{ages, morning, lentTo, comes, Alone, ComesAlone, NeverTwelve, AnswerIsOwn}
-use Rattle.exchange.proofs.Facts.{tagged}
-use Rattle.exchange.proofs.Begins.{begins}
+use Rattle.exchange.specs.Sight.{sight}
+use Rattle.exchange.specs.Promise.{window, ages, morning, lentTo, comes, Alone, ComesAlone, NeverTwelve, AnswerIsOwn}
+use Rattle.exchange.proofs.Going.{held-stored, back-stored}
+use Rattle.exchange.proofs.Facts.{records-say}
 
 -- What comes is all that is served.
 pub comes-alone : ComesAlone
@@ -57,7 +57,7 @@ was-sent : (output : List ℕ) (y : Option (List ℕ)) (x o : List ℕ) → lent
 was-sent output none x o e = let z : _≡_ {A = ℕ} 0 1 = cc in absurd (omega arith)
 was-sent output (some z) x o e = ap (λ (u : List ℕ × List ℕ). some (u .0)) (Option·some-injective _ _ e)
 
-module _ (c : Controller) (s : Loader) (w : World ends) (says : Says ends terms sight c s w) (x o : List ℕ) where
+module _ (c : Controller) (s : Loader) (w : World ends) (says : Says ends terms sight window c s w) (x o : List ℕ) where
   -- what 12 says does not hold of a message that may arrive: its tag is held only where it is the kept request
   not-sent : (i : ℕ) (d : List ℕ) → getElem? (w .offered) i ≡ some d → w .taken ≤ i + ages .request → x ≡ d
       → after (w .controller) o x .refusal .number ≡ 12 → ⊥
@@ -65,8 +65,11 @@ module _ (c : Controller) (s : Loader) (w : World ends) (says : Says ends terms 
       let p = says .plain i d e in
       let q = twelve-exactly (w .controller) o x .only (rw copy (p .bytes)) t .1 in
       let first : getD d 0 0 ≡ q .request .byte0 = ap (λ (l : List ℕ). getD l 0 0) (sym copy) ∙ read-first x (q .request) (q .reads) .1 in
-      let tag : tagIn (storedBy (w .controller)) ≡ some (tagOf (getD d 0 0)) = rw (q .held, ← (q .tag), first) in
-      q .differ (says .repeats i d old e tag ∙ sym copy)
+      let held : holds (w .controller .tags) (tagOf (getD d 0 0)) ≡ true = rw first (q .held) in
+      let at = held-stored (w .controller) (says .sound) (tagOf (getD d 0 0)) (omega arith) held in
+      let j = backFrom (w .controller .tags .tag) (tagOf (getD d 0 0)) in
+      let tag : backFrom (w .controller .tags .tag) j ≡ tagOf (q .request .byte0) = back-stored (w .controller) (says .sound) j _ at .1 ∙ ap tagOf first in
+      q .differ (rw (← tag) (says .repeats i j d old e at) ∙ sym copy)
 
   -- nor of a discovery
   not-found : Finds x → after (w .controller) o x .refusal .number ≡ 12 → ⊥
@@ -75,7 +78,7 @@ module _ (c : Controller) (s : Loader) (w : World ends) (says : Says ends terms 
       let only : findsOnly (Means (q .request)) = subst findsOnly (q .reads) (f .only) in
       false≢true (sym (q .clear) ∙ only .0)
 
-  not-twelve : (e : Event ends) → Allowed ends terms 1 ages w e → comes ends w e ≡ some (x, o) → after (w .controller) o x .refusal .number ≡ 12 → ⊥
+  not-twelve : (e : Event ends) → Allowed ends terms window ages w e → comes ends w e ≡ some (x, o) → after (w .controller) o x .refusal .number ≡ 12 → ⊥
   not-twelve (offer d) a k = let z : _≡_ {A = ℕ} 0 1 = cc in absurd (omega arith)
   not-twelve (send p) a k = let z : _≡_ {A = ℕ} 0 1 = cc in absurd (omega arith)
   not-twelve (arrive j b) a k =
@@ -89,31 +92,31 @@ module _ (c : Controller) (s : Loader) (w : World ends) (says : Says ends terms 
 -- 12 is never given.
 pub never-twelve : NeverTwelve
 never-twelve c s b es e n x o k =
-    let p = always-append (step ends 1) (Allowed ends terms 1 ages) (start ends c s) es (e ∷ []) n in
-    not-twelve c s (morning c s es) (tagged-says tagged c s (begins c s b) es (p .0)) x o e (p .1 .0) k
+    let p = always-append (step ends window) (Allowed ends terms window ages) (start ends c s) es (e ∷ []) n in
+    not-twelve c s (morning c s es) (records-say c s b es (p .0)) x o e (p .1 .0) k
 
 -- An answer is the message's own.
 pub answer-is-own : AnswerIsOwn
-answer-is-own c o x r a e z n = go (repeats (c .tags) t) (expected (c .tags) t) refl refl
+answer-is-own c o x r a e z n = go (holds (c .tags) t) (expected (c .tags) t) refl refl
   where
     t : ℕ
     t = tagOf (r .byte0)
 
     -- held to the kept request, the verdict is this one
-    by : (v : Verdict) → judged (c .tags) (read x) ≡ v → after c o x ≡ afterBy (heldTo (requestIn (c .kept) (c .tags)) x v) c o x
-    by v q = called-by c o x a _ (ap (heldTo (requestIn (c .kept) (c .tags)) x) q)
+    by : (v : Verdict) → judged (c .tags) (read x) ≡ v → after c o x ≡ afterBy (heldTo (c .kept) (c .tags) x v) c o x
+    by v q = called-by c o x a _ (ap (heldTo (c .kept) (c .tags) x) q)
 
-    ruled : (p q : Bool) → repeats (c .tags) t ≡ p → expected (c .tags) t ≡ q → judged (c .tags) (read x) ≡ cond p Repeat (cond q New (Refused (refusal 11)))
+    ruled : (p q : Bool) → holds (c .tags) t ≡ p → expected (c .tags) t ≡ q → judged (c .tags) (read x) ≡ cond p (Repeat t) (cond q New (Refused (refusal 11)))
     ruled p q f g = ap (judged (c .tags)) e ∙ rule-plain (c .tags) (r .byte0) z ∙ rw (f, g)
 
     Again : Type 0
-    Again = (requestIn (c .kept) (c .tags) ≡ x) × (after c o x ≡ afterBy Repeat c o x)
+    Again = (requestIn (c .kept) (c .tags) t ≡ x) × (after c o x ≡ afterBy (Repeat t) c o x)
 
-    kept : (k : Bool) → asKept (requestIn (c .kept) (c .tags)) x ≡ k → after c o x ≡ afterBy (cond k Repeat (Refused (refusal 12))) c o x → Again
+    kept : (k : Bool) → asKept (requestIn (c .kept) (c .tags) t) x ≡ k → after c o x ≡ afterBy (cond k (Repeat t) (Refused (refusal 12))) c o x → Again
     kept true q m = (kept-equal _ _ q, m)
     kept false q m = absurd (let i = sym (ap (λ (u : After). u .refusal .number) m) ∙ n in omega arith)
 
-    go : (p q : Bool) → repeats (c .tags) t ≡ p → expected (c .tags) t ≡ q → (after c o x ≡ accepts c o x) ⊎ Again
-    go true q f g = inr (kept (asKept (requestIn (c .kept) (c .tags)) x) refl (by Repeat (ruled true q f g)))
+    go : (p q : Bool) → holds (c .tags) t ≡ p → expected (c .tags) t ≡ q → (after c o x ≡ accepts c o x) ⊎ Again
+    go true q f g = inr (kept (asKept (requestIn (c .kept) (c .tags) t) x) refl (by (Repeat t) (ruled true q f g)))
     go false true f g = inl (by New (ruled false true f g))
     go false false f g = absurd (let m = sym (ap (λ (u : After). u .refusal .number) (by (Refused (refusal 11)) (ruled false false f g))) ∙ n in omega arith)

@@ -1,10 +1,12 @@
--- The two ages are sharp, computed: `sharp`. Assumes nothing.
-use Prim.Native.Nat.{ℕ, suc}
-use mathlib.Core.Path.{_≡_, refl, _∙_, ap}
-use mathlib.Core.Logic.{_⊎_, inl, inr}
+-- The two ages are sharp, and counted from the newest that waits: computed, `sharp`. Assumes nothing.
+use Prim.Native.Nat.{ℕ}
+use mathlib.Core.Path.{_≡_, refl, sym, _∙_, ap}
+use mathlib.Core.Bool.{Bool, true}
+use mathlib.Core.Option.{some}
 use mathlib.Core.List.{List}
 use native.Mathlib.Omega.{arith}
 use lib.ListN.{length, getD, take}
+use lib.Seq.{take-all}
 use Rattle.word.specs.Words.{wordsOf, bytesOf, put, putWords, same}
 use Rattle.word.specs.Enables.{byteOf, bitOf, ofBytes, merged}
 use Rattle.header.specs.Header.{kindNo, byte0From, headerFrom, headOf}
@@ -17,43 +19,63 @@ use Rattle.message.specs.Discovery.{discoveryBytes}
 use Rattle.answer.specs.Answer.{statusNo, answerByte, answerFault, seenOf, lookOn, answersFrom, judge, answeredWords, answerWords}
 use Rattle.memory.specs.Moves.{outside, fetches, storesBehind, stores, moves, afterMoves, memoryAfter}
 use Rattle.carrying.specs.Answers.{answerOf, answers, answerTo, wordsTo}
-use Rattle.tags.specs.Rule.{repeats, expected, ruleOf}
-use Rattle.tags.specs.Record.{markOf, wordsOk, heldOk, recordOk, keptOk}
+use Rattle.tags.specs.Rule.{expected, ruleOf}
+use Rattle.tags.specs.Record.{holds, wordsAt, requestAt, written, oneMore, markOf, wordsOk, placeOk, placesOk, heldOk, recordOk, keptOk}
 use Rattle.completer.specs.Verdict.{lentOk, asKept, verdictBy}
 use Rattle.completer.specs.Serving.{answerBy, after}
 use Rattle.initiator.specs.Outcome.{judgedBy, endingAt, dataAt}
 use Rattle.initiator.specs.Asking.{plainly, askedAs, asksAs}
-use Rattle.initiator.specs.Sender.{offering, sending, offerOf, sendOf, takeOf}
-use Rattle.once.specs.World.{World, finished, start}
+use Rattle.initiator.specs.Places.{senderOk, hasRoom, placeIn, markAt, answeredAt, waitsFor, newTag, withOne, marked, endingOf, without}
+use Rattle.initiator.specs.Sender.{acceptedAt, offering, sending, offerOf, sendOf, takeOf}
+use Rattle.once.specs.World.{World, Event, finished, start}
 use Rattle.once.specs.Promise.{made}
 use Rattle.exchange.specs.Outcomes.{each, told}
 use Rattle.exchange.specs.Ends.{ends}
 use Rattle.exchange.specs.Terms.{terms}
 use Rattle.exchange.specs.Promise.{morning, FirstMessages}
 use Rattle.exchange.specs.Example.{controller, loader}
-use Rattle.exchange.specs.Sharp.{laterRequests, lateRequest, laterAnswers, lateAnswer, Sharp}
-use Rattle.exchange.proofs.Checked.{always-so}
+use Rattle.exchange.specs.Sharp.{Aged, laterRequests, lateRequest, laterAnswers, lateAnswer, ByOldest, behindNewest, Breaks, Sharp}
+use Rattle.exchange.proofs.Checked.{allowed?, allowed-so, by-oldest?, by-oldest-so, played?, played-so}
 
--- Where all n offered are finished, memory whose word 0 is not that which all of them make breaks the promise.
-broken : (m : List ℕ) (w : World ends) (n : ℕ) → length (w .offered) ≡ n → finished ends w ≡ n →
-    (getD (w .controller .memory) 0 0 ≡ getD (made terms m (take n (w .offered))) 0 0 → ⊥) → FirstMessages m w → ⊥
-broken m w n o f unlike s = unlike (ap (λ l. getD l 0 0) (s .memory) ∙ ap (λ k. getD (made terms m (take k (w .offered))) 0 0) (all (s .is)))
-  where
-    all : (s .k ≡ finished ends w) ⊎ (s .k ≡ suc (finished ends w)) → s .k ≡ n
-    all (inl e) = e ∙ f
-    all (inr e) = absurd (omega (arith, s .offered))
+-- what is looked at in the end: how many were offered, how many are finished, word 0 of memory, and what all of the
+-- messages make of it
+abbrev look : World ends → ℕ × ℕ × ℕ × ℕ
+look w = (length (w .offered), finished ends w, getD (w .controller .memory) 0 0, getD (made terms (controller .memory) (w .offered)) 0 0)
 
--- With 15 made 16 the first of sixteen messages is carried out again. With 16 made 17 the seventeenth is finished by the answer to the
--- first, and was never carried out.
+-- Where all that were offered are finished, memory whose word 0 is not that which all of them make breaks the promise.
+broken : (w : World ends) (n u v : ℕ) → (u ≡ v → ⊥) → look w ≡ (n, n, u, v) → FirstMessages (controller .memory) w → ⊥
+broken w n u v unlike e s =
+    let o = ap (λ (x : ℕ × ℕ × ℕ × ℕ). x .0) e in
+    let f = ap (λ (x : ℕ × ℕ × ℕ × ℕ). x .1) e in
+    let all : take (s .k) (w .offered) ≡ w .offered = take-all (s .k) (w .offered) (omega (arith, s .least, o, f)) in
+    unlike
+    (sym (ap (λ (x : ℕ × ℕ × ℕ × ℕ). x .2) e)
+    ∙ ap (λ (l : List ℕ). getD l 0 0) (s .memory ∙ ap (made terms (controller .memory)) all)
+    ∙ ap (λ (x : ℕ × ℕ × ℕ × ℕ). x .3) e)
+
+-- a night that passes the test, computed: its premises hold, and it breaks the promise
+module _ (Premises : World ends → Event ends → Type 0) (test : World ends → Event ends → Bool)
+    (so : (w : World ends) (e : Event ends) → test w e ≡ true → Premises w e) where
+  breaks : (es : List (Event ends)) (n u v : ℕ) → (u ≡ v → ⊥) → played? Premises test so look (start ends controller loader) es ≡ some (n, n, u, v)
+      → Breaks Premises es
+  breaks es n u v unlike e =
+      let p = played-so Premises test so look (start ends controller loader) es (n, n, u, v) e in
+      (p .0, broken (morning controller loader es) n u v unlike (p .1))
+
+-- With 15 made 16 the first of sixteen messages is carried out again.
+late-request : Breaks (Aged laterRequests) lateRequest
+unfolding wordsOf bytesOf put putWords same byteOf bitOf ofBytes merged kindNo byte0From headerFrom headOf patternOk faultOf stepOn addressFrom commandOf commandsFrom replies ended lengthOk read statusNo answerByte answerFault seenOf lookOn answersFrom judge answeredWords answerWords outside fetches storesBehind stores moves afterMoves memoryAfter answerOf answers answerTo wordsTo requestOf holds wordsAt requestAt written oneMore expected markOf lentOk wordsOk placeOk placesOk heldOk recordOk keptOk ruleOf asKept verdictBy answerBy after discoveryBytes judgedBy endingAt dataAt plainly askedAs asksAs senderOk hasRoom placeIn markAt answeredAt waitsFor newTag withOne marked endingOf without acceptedAt offering sending offerOf sendOf takeOf each told
+late-request = breaks (Aged laterRequests) (allowed? laterRequests) (allowed-so laterRequests) lateRequest 16 1 16 (λ e. omega arith) refl
+
+-- With 16 made 17 the seventeenth is finished by the answer to the first, and was never carried out.
+late-answer : Breaks (Aged laterAnswers) lateAnswer
+unfolding wordsOf bytesOf put putWords same byteOf bitOf ofBytes merged kindNo byte0From headerFrom headOf patternOk faultOf stepOn addressFrom commandOf commandsFrom replies ended lengthOk read statusNo answerByte answerFault seenOf lookOn answersFrom judge answeredWords answerWords outside fetches storesBehind stores moves afterMoves memoryAfter answerOf answers answerTo wordsTo requestOf holds wordsAt requestAt written oneMore expected markOf lentOk wordsOk placeOk placesOk heldOk recordOk keptOk ruleOf asKept verdictBy answerBy after discoveryBytes judgedBy endingAt dataAt plainly askedAs asksAs senderOk hasRoom placeIn markAt answeredAt waitsFor newTag withOne marked endingOf without acceptedAt offering sending offerOf sendOf takeOf each told
+late-answer = breaks (Aged laterAnswers) (allowed? laterAnswers) (allowed-so laterAnswers) lateAnswer 17 16 17 (λ e. omega arith) refl
+
+-- So it is with answers aged by the oldest that waits.
+behind-newest : Breaks ByOldest behindNewest
+unfolding wordsOf bytesOf put putWords same byteOf bitOf ofBytes merged kindNo byte0From headerFrom headOf patternOk faultOf stepOn addressFrom commandOf commandsFrom replies ended lengthOk read statusNo answerByte answerFault seenOf lookOn answersFrom judge answeredWords answerWords outside fetches storesBehind stores moves afterMoves memoryAfter answerOf answers answerTo wordsTo requestOf holds wordsAt requestAt written oneMore expected markOf lentOk wordsOk placeOk placesOk heldOk recordOk keptOk ruleOf asKept verdictBy answerBy after discoveryBytes judgedBy endingAt dataAt plainly askedAs asksAs senderOk hasRoom placeIn markAt answeredAt waitsFor newTag withOne marked endingOf without acceptedAt offering sending offerOf sendOf takeOf each told
+behind-newest = breaks ByOldest by-oldest? by-oldest-so behindNewest 17 16 17 (λ e. omega arith) refl
+
 pub sharp : Sharp
-unfolding wordsOf bytesOf put putWords same byteOf bitOf ofBytes merged kindNo byte0From headerFrom headOf patternOk faultOf stepOn addressFrom commandOf commandsFrom replies ended lengthOk read statusNo answerByte answerFault seenOf lookOn answersFrom judge answeredWords answerWords outside fetches storesBehind stores moves afterMoves memoryAfter answerOf answers answerTo wordsTo requestOf repeats expected markOf lentOk wordsOk heldOk recordOk keptOk ruleOf asKept verdictBy answerBy after discoveryBytes judgedBy endingAt dataAt plainly askedAs asksAs offering sending offerOf sendOf takeOf each told
-sharp = (
-  (
-    always-so laterRequests (start ends controller loader) lateRequest refl,
-    broken (controller .memory) (morning controller loader lateRequest) 16 refl refl (λ e. let z : _≡_ {A = ℕ} 1 16 = e in omega arith),
-  ),
-  (
-    always-so laterAnswers (start ends controller loader) lateAnswer refl,
-    broken (controller .memory) (morning controller loader lateAnswer) 17 refl refl (λ e. let z : _≡_ {A = ℕ} 16 17 = e in omega arith),
-  ),
-)
+sharp = record { requests = late-request; answers = late-answer; oldest = behind-newest }

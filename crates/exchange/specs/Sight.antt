@@ -1,20 +1,23 @@
 -- What the facts about single calls look at: `once` asks for it, and the promise does not name it. Assumes nothing.
-use Prim.Native.Nat.{ℕ}
+use Prim.Native.Nat.{ℕ, suc}
 use mathlib.Core.Path.{_≡_}
-use mathlib.Core.Bool.{true, false, cond}
-use mathlib.Core.Option.{Option, none, some}
-use mathlib.Core.List.{List}
-use lib.ListN.{getD, take}
+use mathlib.Core.Bool.{Bool, true, false, cond, not, _&&_}
+use mathlib.Core.List.{List, [], _∷_}
+use lib.Dec.{eqb}
+use lib.ListN.{getD}
 use Rattle.word.specs.Words.{bytesOf, Bytes}
+use Rattle.header.specs.Limits.{tagCount}
 use Rattle.header.specs.Header.{tagOf, kindOf, discoveryOf}
 use Rattle.message.specs.Request.{Request, Means, Fits}
 use Rattle.message.specs.Walk.{read, requestOf}
 use Rattle.answer.specs.Answer.{Answered, encodeAnswer, FitsAnswer}
-use Rattle.tags.specs.Record.{isFresh}
-use Rattle.completer.specs.Controller.{Controller, requestIn}
-use Rattle.once.specs.Tags.{Sight}
-use Rattle.exchange.specs.Outcomes.{Outcome, resultsIn}
-use Rattle.exchange.specs.Ends.{Loader, ends}
+use Rattle.tags.specs.Record.{back}
+use Rattle.completer.specs.Controller.{Controller, requestIn, answerIn}
+use Rattle.initiator.specs.declared.sender.Sender.{Sender}
+use Rattle.initiator.specs.Places.{answeredAt}
+use Rattle.once.specs.Tags.{Slot, asked, answered, Sight}
+use Rattle.exchange.specs.Outcomes.{Outcome, each, told, resultsIn}
+use Rattle.exchange.specs.Ends.{Waiting, Loader, ends}
 use Rattle.exchange.specs.Terms.{terms, Sound}
 
 -- a well-formed message, no discovery
@@ -24,13 +27,31 @@ pub record Plain (message : List ℕ) : Type 0 where
   pub is : read message ≡ Means request
   pub clear : discoveryOf (request .byte0) ≡ false
 
--- the stored tag and the stored answer as it is sent; words past its length are not seen
-abbrev pub storedBy : Controller → Option (ℕ × List ℕ)
-storedBy c = cond (isFresh (c .tags)) none (some (c .tags .tag, bytesOf (take (c .tags .words) (c .stored))))
+-- the tag that is j back from the newest: `back`, since a tag that is j back has j for its distance and the other way
+-- round; and the stored answer of it as it is sent; and all that are held, the newest first. Words past an answer's
+-- length are not seen.
+abbrev pub storedAt : Controller → ℕ → ℕ × List ℕ
+storedAt c j =
+    (back (c .tags .tag) j, bytesOf (answerIn (c .stored) (c .tags) (back (c .tags .tag) j)))
 
--- the message that waits
-abbrev pub waitingBy : Loader → Option (List ℕ)
-waitingBy s = cond (s .sender .waits) (some (s .message)) none
+abbrev pub storedBy : Controller → List (ℕ × List ℕ)
+storedBy c = each (c .tags .held) (storedAt c)
+
+-- the messages that wait, the oldest first; of an answered one, what its answer tells
+abbrev pub seen : List Waiting → List (Slot (List ℕ) Outcome)
+seen [] = []
+seen (asked message ∷ l) = asked message ∷ seen l
+seen (answered message answer ∷ l) = answered message (told message answer) ∷ seen l
+
+-- whether the sender's record says of what is lent, from place p on, who is answered, and that no more wait
+abbrev pub agrees : Sender → ℕ → List Waiting → Bool
+agrees s p [] = eqb (s .waiting) p
+agrees s p (asked message ∷ l) = not (answeredAt s p) && agrees s (suc p) l
+agrees s p (answered message answer ∷ l) = answeredAt s p && agrees s (suc p) l
+
+-- the next tag; one that is none, of a loader whose record does not say what is lent
+abbrev pub nextBy : Loader → ℕ
+nextBy s = cond (agrees (s .sender) 0 (s .waiting)) (s .sender .next) tagCount
 
 -- the bytes of an answer that may be given to the request
 pub record Encodes (r : Request) (items : List Answered) (answer : List ℕ) : Type 0 where
@@ -58,9 +79,9 @@ sight =
       tag = λ message. tagOf (getD message 0 0);
       Sound = Sound;
       stored = storedBy;
-      Last = λ c message. requestIn (c .kept) (c .tags) ≡ message;
-      next = λ s. s .sender .next;
-      waiting = waitingBy;
+      Holds = λ c j message. requestIn (c .kept) (c .tags) (back (c .tags .tag) j) ≡ message;
+      next = nextBy;
+      waiting = λ s. seen (s .waiting);
       Copy = λ message datagram. datagram ≡ message;
       Answer = Answers;
       Strange = Strange;

@@ -15,7 +15,7 @@ impl Refusal {
 
     // Turned away by the controller.
 
-    // Memory, stored answer, kept request or output has a forbidden length, or the record is not one.
+    // Memory, stored answers, kept requests or output has a forbidden length, or the record is not one.
     pub const LENT: u32 = 1;
     // No bytes, not a multiple of 4, or over the limit.
     pub const LENGTH: u32 = 2;
@@ -35,9 +35,9 @@ impl Refusal {
     pub const AFTER_LAST: u32 = 9;
     // The answer with all commands OK would pass the limit.
     pub const LONG_ANSWER: u32 = 10;
-    // A tag that is neither the stored one nor the next, discovery clear.
+    // A tag that is neither held nor the next, discovery clear.
     pub const OUT_OF_STEP: u32 = 11;
-    // The stored tag, discovery clear, and other bytes than the kept request's.
+    // A held tag, discovery clear, and other bytes than those of its kept request.
     pub const OTHER_BYTES: u32 = 12;
 
     // Building a message.
@@ -59,7 +59,8 @@ impl Refusal {
 
     // Sending or taking an answer while none waits.
     pub const NONE_WAITS: u32 = 30;
-    // The request would be refused 2 to 10, has the discovery bit, or (for a sender) its tag is not the next tag.
+    // The request would be refused 2 to 10, has the discovery bit, or its tag is not the one to offer; of one that is
+    // sent or whose answer is taken, not that of a message that waits and is not answered.
     pub const REQUEST: u32 = 31;
     // An answer's length is 0, not a multiple of 4, or over the limit.
     pub const ANSWER_LENGTH: u32 = 32;
@@ -69,10 +70,10 @@ impl Refusal {
     pub const ANSWER_HEADER: u32 = 34;
     // A header or a body past the end, LAST missing or early, or words after it.
     pub const ANSWER_END: u32 = 35;
-    // Offering while one waits.
-    pub const ONE_WAITS: u32 = 36;
-    // The sender record's next tag is over 15.
-    pub const NEXT_TAG: u32 = 37;
+    // Offering while four wait.
+    pub const FOUR_WAIT: u32 = 36;
+    // The sender record's next tag is over 15, or more than four wait.
+    pub const SENDER: u32 = 37;
     // The discovery's status is not OK, or its word 1 is no stored tag.
     pub const DISCOVERY: u32 = 38;
 

@@ -3,5 +3,7 @@ pub mod Asked
 pub mod Benched
 pub mod Checked
 pub mod Outcomes
+pub mod Places
 pub mod Promises
 pub mod Starting
+pub mod Waits

@@ -1,7 +1,6 @@
 -- 31: whether a request may be asked. Assumes nothing.
 use Prim.Native.Nat.{ℕ}
 use mathlib.Core.Bool.{Bool, true, false, cond}
-use lib.Dec.{eqb}
 use Rattle.header.specs.declared.refusal.Refusal.{Refusal}
 use Rattle.header.specs.Header.{tagOf, discoveryOf}
 use Rattle.header.specs.Refusal.{refusedAt, refusal}
@@ -15,21 +14,21 @@ unfoldable pub plainly : Reading Request → Reading Request
 plainly (Refused r) = Refused (refusedAt 31 (r .at))
 plainly (Means q) = cond (discoveryOf (q .byte0)) (Refused (refusal 31)) (Means q)
 
--- "or its tag is not the next tag", with index 0
-abbrev pub underTag : ℕ → Reading Request → Reading Request
-underTag tag (Refused r) = Refused r
-underTag tag (Means q) = cond (eqb (tagOf (q .byte0)) tag) (Means q) (Refused (refusal 31))
+-- "or its tag is not" one that is asked for, with index 0: `fits` says of a tag whether it is
+abbrev pub underTag : (ℕ → Bool) → Reading Request → Reading Request
+underTag fits (Refused r) = Refused r
+underTag fits (Means q) = cond (fits (tagOf (q .byte0))) (Means q) (Refused (refusal 31))
 
-unfoldable pub askedAs : ℕ → Reading Request → Reading Request
-askedAs tag p = underTag tag (plainly p)
+unfoldable pub askedAs : (ℕ → Bool) → Reading Request → Reading Request
+askedAs fits p = underTag fits (plainly p)
 
 -- whether 31 lets it by
 abbrev pub letsBy : Reading Request → Bool
 letsBy (Refused r) = false
 letsBy (Means q) = true
 
-unfoldable pub asksAs : ℕ → Reading Request → Bool
-asksAs tag p = letsBy (askedAs tag p)
+unfoldable pub asksAs : (ℕ → Bool) → Reading Request → Bool
+asksAs fits p = letsBy (askedAs fits p)
 
 -- what the functions tell of it: byte 0, or the refusal; and that refusal, number 0 for none
 abbrev pub askingOf : Reading Request → Asking

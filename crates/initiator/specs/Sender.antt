@@ -1,6 +1,6 @@
 -- The sender: made fresh or from a discovery's answer; offering, sending, taking an answer. Assumes nothing.
 use Prim.Native.Nat.{ℕ}
-use mathlib.Core.Bool.{Bool, true, false, not, cond}
+use mathlib.Core.Bool.{Bool, false, cond}
 use mathlib.Core.List.{List, [], _∷_}
 use lib.ListN.{getD}
 use lib.Dec.{ltb, eqb}
@@ -16,31 +16,38 @@ use Rattle.answer.specs.declared.Status.the-variants.{Ok, Timeout, Error}
 use Rattle.answer.specs.Answer.{Answered, judge}
 use Rattle.initiator.specs.declared.sender.Sender.{Sender}
 use Rattle.initiator.specs.declared.sender.Moved.{Moved}
+use Rattle.initiator.specs.declared.sender.Taken.{Taken}
 use Rattle.initiator.specs.Asking.{askedAs}
 use Rattle.initiator.specs.Outcome.{judgedIn}
+use Rattle.initiator.specs.Places.{senderOk, hasRoom, placeIn, waitsFor, newTag}
+use Rattle.initiator.specs.Places.{withOne, marked, endingOf, without}
+
+-- a record with this next tag at which none waits
+abbrev pub idle : ℕ → Sender
+idle next = record { next = next; waiting = 0; second = false; third = false; fourth = false }
 
 -- "A sender starts with next tag 0 for a fresh pair"
 abbrev pub freshSender : Sender
-freshSender = record { next = 0; waits = false }
+freshSender = idle 0
 
 -- offering: 37, 36, 31
 unfoldable pub offering : Sender → List ℕ → Reading Request
 offering s message =
-    unless (ltb (s .next) tagCount) (Refused (refusal 37))
-    (unless (not (s .waits)) (Refused (refusal 36))
-    (askedAs (s .next) (read message)))
+    unless (senderOk s) (Refused (refusal 37))
+    (unless (hasRoom s) (Refused (refusal 36))
+    (askedAs (eqb (newTag s)) (read message)))
 
 -- sending, and taking before the answer is looked at: 37, 30, 31
 unfoldable pub sending : Sender → List ℕ → Reading Request
 sending s message =
-    unless (ltb (s .next) tagCount) (Refused (refusal 37))
-    (unless (s .waits) (Refused (refusal 30))
-    (askedAs (s .next) (read message)))
+    unless (senderOk s) (Refused (refusal 37))
+    (unless (ltb 0 (s .waiting)) (Refused (refusal 30))
+    (askedAs (waitsFor s) (read message)))
 
--- an accepted offer: the message waits; "Refusals .. sender unchanged", and number 0 is none
+-- "Refusals .. sender unchanged", and number 0 is none
 abbrev pub offeredBy : Sender → Reading Request → Moved
 offeredBy s (Refused r) = record { refusal = r; sender = s }
-offeredBy s (Means q) = record { refusal = refusal 0; sender = record { next = s .next; waits = true } }
+offeredBy s (Means q) = record { refusal = refusal 0; sender = withOne s }
 
 unfoldable pub offerOf : Sender → List ℕ → Moved
 offerOf s message = offeredBy s (offering s message)
@@ -57,14 +64,23 @@ sendOf s message = handsBack (sending s message) message
 unfoldable pub sendFault : Sender → List ℕ → Refusal
 sendFault s message = refusalIn (sending s message)
 
--- "An accepted answer ends it, also when a command failed; .. and the next tag is one more, modulo 16"
-abbrev pub takenBy : Sender → Reading (List Answered) → Moved
-takenBy s (Refused r) = record { refusal = r; sender = s }
-takenBy s (Means items) = record { refusal = refusal 0; sender = record { next = nextTag (s .next); waits = false } }
+-- "An accepted answer ends it, also when a command failed": the oldest; a younger one waits on
+unfoldable pub acceptedAt : Sender → ℕ → Taken
+acceptedAt s place = cond (eqb place 0)
+    (record { refusal = refusal 0; sender = without s (endingOf s); ended = endingOf s })
+    (record { refusal = refusal 0; sender = marked s place; ended = 0 })
 
--- taking: 37, 30, 31, then 32 to 35
-unfoldable pub takeOf : Sender → List ℕ → List ℕ → Moved
-takeOf s message answer = takenBy s (judgedIn (sending s message) answer)
+-- "Refusals .. sender unchanged", and nothing ended
+abbrev pub refusedTake : Sender → Refusal → Taken
+refusedTake s r = record { refusal = r; sender = s; ended = 0 }
+
+abbrev pub takenBy : Sender → ℕ → Reading (List Answered) → Taken
+takenBy s place (Refused r) = refusedTake s r
+takenBy s place (Means items) = acceptedAt s place
+
+-- taking: 37, 30, 31, then 32 to 35, "judges by the request lent"
+unfoldable pub takeOf : Sender → List ℕ → List ℕ → Taken
+takeOf s message answer = takenBy s (placeIn s (tagOf (getD message 0 0))) (judgedIn (sending s message) answer)
 
 -- not "word 1 has bits above 4 set, or bit 4 clear and a tag nonzero"
 unfoldable pub wordOk : ℕ → Bool
@@ -76,12 +92,11 @@ nextAfter w = cond (ltb w 16) 0 (nextTag (tagOf w))
 
 -- what a refused discovery hands back: 37 stops whoever goes on with it
 abbrev pub spoiled : Refusal → Moved
-spoiled r = record { refusal = r; sender = record { next = tagCount; waits = false } }
+spoiled r = record { refusal = r; sender = idle tagCount }
 
 -- what word 1 of an OK answer makes
 unfoldable pub startedAt : ℕ → Moved
-startedAt w = cond (wordOk w) (record { refusal = refusal 0; sender = record { next = nextAfter w; waits = false } })
-    (spoiled (refusal 38))
+startedAt w = cond (wordOk w) (record { refusal = refusal 0; sender = idle (nextAfter w) }) (spoiled (refusal 38))
 
 -- "discovery status not OK" is 38 too
 abbrev pub startedBy : Status → ℕ → Moved

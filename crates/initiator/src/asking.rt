@@ -1,6 +1,7 @@
 // 31: whether a request may be asked.
 ghost use mathlib.Core.Path.{_≡_};
 ghost use mathlib.Core.Bool.{cond};
+ghost use lib.Dec.{eqb};
 ghost use Rattle.header.specs.Header.{discoveryOf};
 ghost use Rattle.header.specs.Refusal.{refusal};
 ghost use Rattle.message.specs.Walk.{read};
@@ -52,13 +53,13 @@ pub fn ask(request: &[u8]) -> Asking
 
 // A message under this tag: 31 for another tag too.
 pub fn ask_as(tag: u32, message: &[u8]) -> Asking
-    ensures { λ r. ⌜ r ≡ askingOf (askedAs tag (read (now (message .entry)))) ⌝ }
+    ensures { λ r. ⌜ r ≡ askingOf (askedAs (eqb tag) (read (now (message .entry)))) ⌝ }
 {
     let asking = ask(message);
     let Asking::Asks(byte0) = asking else {
         return asking;
     };
-    if header::tag(byte0) != tag {
+    if tag != header::tag(byte0) {
         return Asking::Refused(Refusal::of(Refusal::REQUEST));
     }
     Asking::Asks(byte0)

@@ -3,4 +3,5 @@
 // The contracts cite specs/, where document 01's sentences have their definitions, in the file named after the module.
 pub mod asking;
 pub mod outcome;
+pub mod places;
 pub mod sender;

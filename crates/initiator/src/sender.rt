@@ -1,30 +1,60 @@
-// The sender: it holds at most one message waiting, which stays lent to it and may be sent any number of times, until
-// an accepted answer ends it. Every call takes any record, any message, any answer, and refuses by number.
+// The sender: up to four messages wait at it, which stay lent to it and may be sent any number of times, until an
+// accepted answer ends them, in order of tag. Every call takes any record, any message, any answer, and refuses by
+// number.
 ghost use mathlib.Core.Path.{_≡_};
 ghost use Prim.Native.Nat.{_<_};
-ghost use Rattle.initiator.specs.Asking.{askingOf};
-ghost use Rattle.initiator.specs.Sender.{freshSender, offering, sending, offerOf, sendOf, sendFault, takeOf, spoiled, wordOk, nextAfter, startedAt, startOf};
+ghost use Rattle.header.specs.Limits.{tagCount};
+ghost use Rattle.message.specs.Walk.{read};
+ghost use Rattle.initiator.specs.Asking.{askedAs, askingOf};
+ghost use Rattle.initiator.specs.Places.{waitsFor};
+ghost use Rattle.initiator.specs.Sender.{idle, freshSender, offering, sending, offerOf, sendOf, sendFault, refusedTake, acceptedAt, takeOf, spoiled, wordOk, nextAfter, startedAt, startOf};
 use crate::asking;
 use crate::asking::Asking;
 use crate::outcome;
+use crate::places;
 use answer::Look;
 use answer::Status;
 use header::Kind;
 use header::limits;
 use header::refusal::Refusal;
 
-// The next tag, and whether a message waits.
+// The next tag, that of the oldest message which waits, or where none waits the one to offer; how many wait; and which
+// of the three behind the oldest are answered. What is said of a message that does not wait is not looked at.
 #[repr(C)]
 pub struct Sender {
-    pub next: u32,
-    pub waits: bool,
+    pub next: u8,
+    pub waiting: u8,
+    pub second: bool,
+    pub third: bool,
+    pub fourth: bool,
 }
 
-// What a call came to: its refusal (number 0: none), and the sender then.
+// What an offer or a discovery came to: its refusal (number 0: none), and the sender then.
 #[repr(C)]
 pub struct Moved {
     pub refusal: Refusal,
     pub sender: Sender,
+}
+
+// What taking an answer came to: the same, and how many messages ended.
+#[repr(C)]
+pub struct Taken {
+    pub refusal: Refusal,
+    pub sender: Sender,
+    pub ended: u8,
+}
+
+// A sender at which none waits.
+fn idle(next: u8) -> Sender
+    ensures { λ r. ⌜ r ≡ idle next ⌝ }
+{
+    Sender {
+        next,
+        waiting: 0,
+        second: false,
+        third: false,
+        fourth: false,
+    }
 }
 
 impl Sender {
@@ -32,10 +62,7 @@ impl Sender {
     pub fn fresh() -> Self
         ensures { λ r. ⌜ r ≡ freshSender ⌝ }
     {
-        Sender {
-            next: 0,
-            waits: false,
-        }
+        idle(0)
     }
 
     // The sender that the answer to the fixed discovery makes: refused by 32 to 35, then 38, with a sender that 37
@@ -67,10 +94,7 @@ fn spoilt(refusal: Refusal) -> Moved
 {
     Moved {
         refusal,
-        sender: Sender {
-            next: limits::TAGS,
-            waits: false,
-        },
+        sender: idle(limits::TAGS as u8),
     }
 }
 
@@ -85,13 +109,13 @@ fn word_ok(w: u32) -> bool
 }
 
 // The tag after the one that the word says, modulo 16; 0 where it says none.
-fn next_after(w: u32) -> u32
+fn next_after(w: u32) -> u8
     requires { ⌜ w < 32 ⌝ }
     ensures { λ r. ⌜ r ≡ nextAfter w ⌝ }
 {
     match w {
         0..=15 => 0,
-        _ => header::next_tag(header::tag(w)),
+        _ => header::next_tag(header::tag(w)) as u8,
     }
 }
 
@@ -104,10 +128,7 @@ fn started(w: u32) -> Moved
     }
     Moved {
         refusal: Refusal::of(Refusal::NONE),
-        sender: Sender {
-            next: next_after(w),
-            waits: false,
-        },
+        sender: idle(next_after(w)),
     }
 }
 
@@ -115,13 +136,13 @@ fn started(w: u32) -> Moved
 fn offering(sender: Sender, message: &[u8]) -> Asking
     ensures { λ r. ⌜ r ≡ askingOf (offering sender (now (message .entry))) ⌝ }
 {
-    if limits::TAGS <= sender.next {
-        return Asking::Refused(Refusal::of(Refusal::NEXT_TAG));
+    if !places::sender_ok(sender) {
+        return Asking::Refused(Refusal::of(Refusal::SENDER));
     }
-    if sender.waits {
-        return Asking::Refused(Refusal::of(Refusal::ONE_WAITS));
+    if !places::has_room(sender) {
+        return Asking::Refused(Refusal::of(Refusal::FOUR_WAIT));
     }
-    asking::ask_as(sender.next, message)
+    asking::ask_as(places::new_tag(sender) as u32, message)
 }
 
 // Offers a message: 37, 36, 31. Accepted, it waits; refused, the sender is unchanged.
@@ -137,24 +158,36 @@ pub fn offer(sender: Sender, message: &[u8]) -> Moved
     };
     Moved {
         refusal: Refusal::of(Refusal::NONE),
-        sender: Sender {
-            next: sender.next,
-            waits: true,
-        },
+        sender: places::with_one(sender),
     }
+}
+
+// A message that waits and is not answered: 31, also for any other tag than such a one's.
+fn ask_waiting(sender: Sender, message: &[u8]) -> Asking
+    requires { ⌜ sender .next < tagCount ⌝ }
+    ensures { λ r. ⌜ r ≡ askingOf (askedAs (waitsFor sender) (read (now (message .entry)))) ⌝ }
+{
+    let asking = asking::ask(message);
+    let Asking::Asks(byte0) = asking else {
+        return asking;
+    };
+    if !places::waits_for(sender, header::tag(byte0) as u8) {
+        return Asking::Refused(Refusal::of(Refusal::REQUEST));
+    }
+    Asking::Asks(byte0)
 }
 
 // Whether a message may be sent, or an answer to it taken: 37, 30, 31.
 fn sending(sender: Sender, message: &[u8]) -> Asking
     ensures { λ r. ⌜ r ≡ askingOf (sending sender (now (message .entry))) ⌝ }
 {
-    if limits::TAGS <= sender.next {
-        return Asking::Refused(Refusal::of(Refusal::NEXT_TAG));
+    if !places::sender_ok(sender) {
+        return Asking::Refused(Refusal::of(Refusal::SENDER));
     }
-    if !sender.waits {
+    if sender.waiting == 0 {
         return Asking::Refused(Refusal::of(Refusal::NONE_WAITS));
     }
-    asking::ask_as(sender.next, message)
+    ask_waiting(sender, message)
 }
 
 // The refusal of sending this message: 37, 30, 31, or none (number 0).
@@ -175,28 +208,53 @@ pub fn send<'a>(sender: Sender, message: &'a [u8]) -> &'a [u8]
     message
 }
 
-// Takes an answer to the waiting message: 37, 30, 31, 32 to 35. Accepted, it ends the message, and the next tag is one
-// more, modulo 16; refused, the sender is unchanged.
-pub fn take(sender: Sender, message: &[u8], answer: &[u8]) -> Moved
+// What a refused answer leaves: the sender as it was, and nothing ended.
+fn not_taken(sender: Sender, refusal: Refusal) -> Taken
+    ensures { λ r. ⌜ r ≡ refusedTake sender refusal ⌝ }
+{
+    Taken {
+        refusal,
+        sender,
+        ended: 0,
+    }
+}
+
+// What an accepted answer to the message of this place does: the oldest ends, and the answered ones right behind it; a
+// younger one waits on.
+fn accepted_at(sender: Sender, place: u8) -> Taken
+    requires { ⌜ sender .next < tagCount ⌝ }
+    requires { ⌜ 0 < sender .waiting ⌝ }
+    ensures { λ r. ⌜ r ≡ acceptedAt sender place ⌝ }
+{
+    if place != 0 {
+        return Taken {
+            refusal: Refusal::of(Refusal::NONE),
+            sender: places::marked(sender, place),
+            ended: 0,
+        };
+    }
+    let ended = places::ending(sender);
+    Taken {
+        refusal: Refusal::of(Refusal::NONE),
+        sender: places::without(sender, ended),
+        ended,
+    }
+}
+
+// Takes an answer to the lent message, which waits: 37, 30, 31, 32 to 35. Accepted, it ends the oldest message and all
+// answered ones right behind it, and the next tag is as many more, modulo 16; or it marks a younger one. Refused, the
+// sender is unchanged.
+pub fn take(sender: Sender, message: &[u8], answer: &[u8]) -> Taken
     ensures { λ r. ⌜ r ≡ takeOf sender (now (message .entry)) (now (answer .entry)) ⌝ }
 {
     let asking = sending(sender, message);
     let Asking::Asks(byte0) = asking else {
-        return Moved {
-            refusal: asking::refusal_of(asking),
-            sender,
-        };
+        return not_taken(sender, asking::refusal_of(asking));
     };
     let told = outcome::told_by(message, answer, byte0, 0);
     let refusal = told.refusal;
     if refusal.number != 0 {
-        return Moved { refusal, sender };
+        return not_taken(sender, refusal);
     }
-    Moved {
-        refusal,
-        sender: Sender {
-            next: header::next_tag(sender.next),
-            waits: false,
-        },
-    }
+    accepted_at(sender, places::place_in(sender, header::tag(byte0) as u8))
 }

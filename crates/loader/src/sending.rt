@@ -6,6 +6,7 @@ use header::refusal::Refusal;
 use initiator::sender;
 use initiator::sender::Moved;
 use initiator::sender::Sender;
+use initiator::sender::Taken;
 use message::discovery;
 
 // What sending comes to: its refusal (number 0: none), and how many bytes go out, all of them the message's own.
@@ -21,7 +22,7 @@ pub struct Discovery {
     pub bytes: [u8; 12],
 }
 
-// The fixed discovery, which asks a controller for its stored tag.
+// The fixed discovery, which asks a controller for its newest tag.
 #[no_mangle]
 pub extern "C" fn charkhavo_discovery() -> Discovery
     ensures { λ r. ⌜ r ≡ fixedDiscovery ⌝ }
@@ -48,7 +49,7 @@ pub extern "C" fn charkhavo_discovered(answer: &[u8]) -> Moved
     Sender::discovered(answer)
 }
 
-// Offers a message, which then waits; 37, 36, 31. Refused, the sender is unchanged.
+// Offers a message, which then waits; 37, 36 where four wait, 31. Refused, the sender is unchanged.
 #[no_mangle]
 pub extern "C" fn charkhavo_offer(sender: Sender, message: &[u8]) -> Moved
     ensures { λ r. ⌜ r ≡ offerOf sender (now (message .entry)) ⌝ }
@@ -56,7 +57,7 @@ pub extern "C" fn charkhavo_offer(sender: Sender, message: &[u8]) -> Moved
     sender::offer(sender, message)
 }
 
-// Whether the waiting message may go out, and how long it is: 37, 30, 31.
+// Whether a message that waits and is not answered may go out, and how long it is: 37, 30, 31.
 #[no_mangle]
 pub extern "C" fn charkhavo_send(sender: Sender, message: &[u8]) -> Sending
     ensures { λ r. ⌜ r ≡ sendingOf sender (now (message .entry)) ⌝ }
@@ -71,9 +72,10 @@ pub extern "C" fn charkhavo_send(sender: Sender, message: &[u8]) -> Sending
     }
 }
 
-// Takes an answer to the waiting message, which it ends; 37, 30, 31 to 35. Refused, the sender is unchanged.
+// Takes an answer to the lent message, which waits and is not answered; 37, 30, 31 to 35. It gives how many messages
+// ended, the oldest ones: none where an older one is still unanswered. Refused, the sender is unchanged.
 #[no_mangle]
-pub extern "C" fn charkhavo_take(sender: Sender, message: &[u8], answer: &[u8]) -> Moved
+pub extern "C" fn charkhavo_take(sender: Sender, message: &[u8], answer: &[u8]) -> Taken
     ensures { λ r. ⌜ r ≡ takeOf sender (now (message .entry)) (now (answer .entry)) ⌝ }
 {
     sender::take(sender, message, answer)

@@ -57,7 +57,11 @@ nights =
     -- [4] "refused 4 at 12"
     ∷ prints (holds fifthDiffers) "1 refused 4 at 12\ntag none\n"
     -- "over 1,024 .. words": the last one is read, the one behind it is Error, a header alone
-    ∷ prints (reads 0x8001002E 4092 ++ reads 0x8001002F 4096) "1 sent 2\n2 sent 1\ntag 15\n"
+    ∷ prints (reads 0x80010020 4092 ++ reads 0x80010021 4096) "1 sent 2\n2 sent 1\ntag 1\n"
+    -- [9] "a fresh controller now takes only tag 0, else 11"
+    ∷ prints (reads 0x80010021 0) "1 refused 11 at 0\ntag none\n"
+    -- [9] "to answer repeats of any": tags 0 and 1, then 0 again; the last line has the newest
+    ∷ prints (reads 0x80010020 0 ++ (reads 0x80020021 0 ++ reads 0x80010020 0)) "1 sent 2\n2 sent 3\n3 sent 2\ntag 1\n"
     ∷ []
 
 unfoldable pub right : Printed → Bool

@@ -8,7 +8,7 @@ use lib.ListN.{length, take, drop, getD, replicate}
 use Rattle.word.specs.Words.{wordsOf, put}
 use Rattle.header.specs.Limits.{limit, limitBytes}
 use Rattle.header.specs.Refusal.{refusal}
-use Rattle.tags.specs.Record.{freshRecord}
+use Rattle.tags.specs.Record.{places, freshRecord}
 use Rattle.completer.specs.Controller.{Controller, lent, After, left}
 use Rattle.completer.specs.Serving.{after}
 use Rattle.night.specs.declared.Night.{Night}
@@ -52,12 +52,13 @@ turnOf c k got =
     cond (eqb (length got) 0) (turned c [] false)
     (cond (ltb (length got) recordBytes) (turned c (textOf k Short) false) (wholeTurn c k got))
 
--- "It starts fresh over 1,024 zero words"; nothing reads the stored answer or the kept request before it is written
+-- "It starts fresh over 1,024 zero words"; nothing reads a stored answer or a kept request before it is written
 abbrev pub memoryWords : ℕ
 memoryWords = 1024
 
 unfoldable pub atFirst : Controller
-atFirst = lent (replicate memoryWords 0) (replicate limit 0) (replicate limitBytes 0) freshRecord
+atFirst =
+    lent (replicate memoryWords 0) (replicate (places * limit) 0) (replicate (places * limitBytes) 0) freshRecord
 
 -- record k of the input, counted from 0, or what there is of it
 unfoldable pub recordAt : List ℕ → ℕ → List ℕ

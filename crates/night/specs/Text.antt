@@ -10,6 +10,7 @@ use lib.ListN.{length}
 use Rattle.word.specs.Words.{put}
 use Rattle.header.specs.declared.refusal.Refusal.{Refusal}
 use Rattle.tags.specs.declared.record.TagRecord.{TagRecord}
+use Rattle.tags.specs.Record.{isFresh}
 
 -- the bytes of a text
 abbrev pub ascii : String → List ℕ
@@ -45,9 +46,9 @@ textOf k (Refused r) =
     decimal k ++ (ascii " refused " ++ (decimal (r .number) ++ (ascii " at " ++ (decimal (r .at) ++ ascii "\n"))))
 textOf k Short = decimal k ++ ascii " short\n"
 
--- "the last line is `tag none` when fresh"
+-- "the last line is `tag none` when fresh"; [9] else the newest tag
 unfoldable pub tagText : TagRecord → List ℕ
-tagText t = ascii "tag " ++ (cond (t .fresh) (ascii "none") (decimal (t .tag)) ++ ascii "\n")
+tagText t = ascii "tag " ++ (cond (isFresh t) (ascii "none") (decimal (t .tag)) ++ ascii "\n")
 
 -- the run s was put into the text l from index `at` on, which gave l' and the index r behind it
 pub record Wrote (l : List ℕ) (at : ℕ) (s : List ℕ) (r : ℕ) (l' : List ℕ) : Type 0 where

@@ -20,11 +20,11 @@ pub const RECORD: usize = 4 + limits::LIMIT_BYTES;
 // The bytes of a line: 74 are enough for three numbers of 64 bits and the words between them.
 pub const LINE: usize = 80;
 
-// The controller that the night is played to: memory, stored answer, kept request and record.
+// The controller that the night is played to: memory, stored answers, kept requests and record.
 pub struct Night {
     memory: [u32; 1024],
-    stored: [u32; limits::LIMIT],
-    kept: [u8; limits::LIMIT_BYTES],
+    stored: [u32; TagRecord::STORED],
+    kept: [u8; TagRecord::KEPT],
     tags: TagRecord,
 }
 
@@ -35,8 +35,8 @@ impl Night {
     {
         Night {
             memory: [0; 1024],
-            stored: [0; limits::LIMIT],
-            kept: [0; limits::LIMIT_BYTES],
+            stored: [0; TagRecord::STORED],
+            kept: [0; TagRecord::KEPT],
             tags: TagRecord::fresh(),
         }
     }

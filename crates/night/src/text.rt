@@ -78,11 +78,11 @@ pub(crate) fn short(line: &mut [u8; LINE], k: u64) -> usize
     say(line, at, b" short\n")
 }
 
-// The last line: the stored tag, or that there is none.
+// The last line: the newest tag, or that there is none.
 pub(crate) fn tag(line: &mut [u8; LINE], tags: TagRecord) -> usize
     ensures { λ r. ⌜ Wrote (now (line .entry)) 0 (tagText tags) r (now (line .exit)) ⌝ }
 {
-    if tags.fresh {
+    if tags.held == 0 {
         return say(line, 0, b"tag none\n");
     }
     let at = named(line, 0, b"tag ", tags.tag as u64);

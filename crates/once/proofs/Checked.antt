@@ -1,6 +1,6 @@
--- The premises of the runs of specs/Example.antt, decided by computation: `always-so`. Cited by Example.antt and Sharp.antt.
--- Assumes nothing.
-use Prim.Native.Nat.{ℕ, zero, suc, _+_}
+-- The premises of the runs of specs/Example.antt, decided by computation: `may-so`. Cited by Example.antt and
+-- Sharp.antt. Assumes nothing.
+use Prim.Native.Nat.{ℕ, zero, suc, _+_, _%_}
 use mathlib.Core.Path.{_≡_, refl}
 use mathlib.Core.Bool.{Bool, true, false, cond, _&&_}
 use mathlib.Core.List.{List, [], _∷_}
@@ -9,10 +9,11 @@ use borrow.Author.Tests.{ltb-true, leb-true, eqb-true, lt-ltb}
 use lib.Dec.{eqb, ltb, leb}
 use lib.ListN.{length}
 use Rattle.once.specs.Runs.{Always}
-use Rattle.once.specs.World.{World, Event, offer, send, arrive, back, other, Origin, message, stranger, finished, sent, given, room, step}
-use Rattle.once.specs.Promise.{Ages, Timely, Allowed}
+use Rattle.once.specs.World.{World, Event, offer, send, arrive, back, other, Origin, message, stranger}
+use Rattle.once.specs.World.{start, finished, sent, given, room, step}
+use Rattle.once.specs.Promise.{Ages, usual, Timely}
 use Rattle.once.specs.Pair.{Datagram, request, discovery, answer, found, Quiet}
-use Rattle.once.specs.Example.{numbers, pair, about}
+use Rattle.once.specs.Example.{numbers, controller, sender, pair, about, May, Aged, Near, ByOldest}
 
 -- two tests pass if both do
 pub both-true : (a b : Bool) → (a && b) ≡ true → (a ≡ true) × (b ≡ true)
@@ -34,38 +35,81 @@ quiet-so (discovery (suc x)) e = let z : _≡_ {A = ℕ} 0 1 = cc in absurd (ome
 quiet-so (answer t o) e = tt
 quiet-so (found o) e = tt
 
-module _ (A : Ages) where
-  abbrev timely? : World pair → Origin → Bool
-  timely? w (message i) = cond (ltb (finished pair w) (length (w .offered))) (leb (length (w .offered)) (i + A .answer)) true
-  timely? w stranger = true
+module _ (W : ℕ) where
+  -- where a message waits, the test passes
+  abbrev waits? : World (pair W) → Bool → Bool
+  waits? w b = cond (ltb (finished (pair W) w) (length (w .offered))) b true
 
-  timely-so : (w : World pair) (o : Origin) → timely? w o ≡ true → Timely pair about 1 A w o
-  timely-so w (message i) e = λ h. leb-true _ _ (rw (lt-ltb (finished pair w) (length (w .offered)) h) at e)
-  timely-so w stranger e = tt
+  abbrev timely? : Ages → World (pair W) → Origin → Bool
+  timely? A w (message i) = waits? w (leb (length (w .offered)) (i + A .answer))
+  timely? A w stranger = true
 
-  abbrev allowed? : World pair → Event pair → Bool
-  allowed? w (offer d) = cond (room pair 1 w) (ltb (d .0) 16 && eqb (d .0) (w .sender .next)) true
-  allowed? w (send p) = ltb p 1
-  allowed? w (arrive j b) = ltb j (length (w .air)) && (leb (w .taken) ((sent pair w j) .0 + A .request) && ltb 0 b)
-  allowed? w (back n) = ltb n (length (w .answers)) && timely? w ((given pair w n) .0)
-  allowed? w (other x b) = quiet? x && ltb 0 b
+  timely-so : (A : Ages) (w : World (pair W)) (o : Origin) → timely? A w o ≡ true → Timely (pair W) (about W) W A w o
+  timely-so A w (message i) e = λ h. leb-true _ _ (rw (lt-ltb (finished (pair W) w) (length (w .offered)) h) at e)
+  timely-so A w stranger e = tt
 
-  allowed-so : (w : World pair) (e : Event pair) → allowed? w e ≡ true → Allowed pair about 1 A w e
-  allowed-so w (offer d) e =
-      λ h. let p = both-true (ltb (d .0) 16) (eqb (d .0) (w .sender .next)) (rw h at e) in (ltb-true _ _ (p .0), eqb-true _ _ (p .1))
-  allowed-so w (send p) e = ltb-true p 1 e
-  allowed-so w (arrive j b) e =
+  abbrev pub allowed? : Ages → World (pair W) → Event (pair W) → Bool
+  allowed? A w (offer d) =
+      cond (room (pair W) W w)
+      (ltb (d .0) 16 && eqb (d .0) ((w .sender .next + length (w .sender .waiting)) % 16)) true
+  allowed? A w (send p) = ltb p W
+  allowed? A w (arrive j b) =
+      ltb j (length (w .air)) && (leb (w .taken) ((sent (pair W) w j) .0 + A .request) && ltb 0 b)
+  allowed? A w (back n) = ltb n (length (w .answers)) && timely? A w ((given (pair W) w n) .0)
+  allowed? A w (other x b) = quiet? x && ltb 0 b
+
+  pub allowed-so : (A : Ages) (w : World (pair W)) (e : Event (pair W)) → allowed? A w e ≡ true → Aged W A w e
+  allowed-so A w (offer d) e =
+      λ h. let p = both-true (ltb (d .0) 16) _ (rw h at e) in (ltb-true _ _ (p .0), eqb-true _ _ (p .1))
+  allowed-so A w (send p) e = ltb-true p W e
+  allowed-so A w (arrive j b) e =
       let p = both-true (ltb j (length (w .air))) _ e in
-      let q = both-true (leb (w .taken) ((sent pair w j) .0 + A .request)) _ (p .1) in
+      let q = both-true (leb (w .taken) ((sent (pair W) w j) .0 + A .request)) _ (p .1) in
       (ltb-true _ _ (p .0), leb-true _ _ (q .0), ltb-true _ _ (q .1))
-  allowed-so w (back n) e = let p = both-true (ltb n (length (w .answers))) _ e in (ltb-true _ _ (p .0), timely-so w ((given pair w n) .0) (p .1))
-  allowed-so w (other x b) e = let p = both-true (quiet? x) _ e in (quiet-so x (p .0), ltb-true _ _ (p .1))
+  allowed-so A w (back n) e =
+      let p = both-true (ltb n (length (w .answers))) _ e in
+      (ltb-true _ _ (p .0), timely-so A w ((given (pair W) w n) .0) (p .1))
+  allowed-so A w (other x b) e = let p = both-true (quiet? x) _ e in (quiet-so x (p .0), ltb-true _ _ (p .1))
 
-  abbrev always? : World pair → List (Event pair) → Bool
-  always? w [] = true
-  always? w (e ∷ es) = allowed? w e && always? (step pair 1 w e) es
+  -- with answers aged by the oldest that waits
+  abbrev near? : World (pair W) → Origin → Bool
+  near? w (message i) = waits? w (ltb (finished (pair W) w) (i + usual .answer))
+  near? w stranger = true
 
-  -- A run that passes the test is allowed.
-  pub always-so : (w : World pair) (es : List (Event pair)) → always? w es ≡ true → Always (step pair 1) (Allowed pair about 1 A) w es
-  always-so w [] e = tt
-  always-so w (x ∷ es) e = let p = both-true (allowed? w x) _ e in (allowed-so w x (p .0), always-so (step pair 1 w x) es (p .1))
+  near-so : (w : World (pair W)) (o : Origin) → near? w o ≡ true → Near W w o
+  near-so w (message i) e = λ h. ltb-true _ _ (rw (lt-ltb (finished (pair W) w) (length (w .offered)) h) at e)
+  near-so w stranger e = tt
+
+  abbrev pub by-oldest? : World (pair W) → Event (pair W) → Bool
+  by-oldest? w (offer d) = allowed? usual w (offer d)
+  by-oldest? w (send p) = allowed? usual w (send p)
+  by-oldest? w (arrive j b) = allowed? usual w (arrive j b)
+  by-oldest? w (back n) = ltb n (length (w .answers)) && near? w ((given (pair W) w n) .0)
+  by-oldest? w (other x b) = allowed? usual w (other x b)
+
+  pub by-oldest-so : (w : World (pair W)) (e : Event (pair W)) → by-oldest? w e ≡ true → ByOldest W w e
+  by-oldest-so w (offer d) e = allowed-so usual w (offer d) e
+  by-oldest-so w (send p) e = allowed-so usual w (send p) e
+  by-oldest-so w (arrive j b) e = allowed-so usual w (arrive j b) e
+  by-oldest-so w (back n) e =
+      let p = both-true (ltb n (length (w .answers))) _ e in
+      (ltb-true _ _ (p .0), near-so w ((given (pair W) w n) .0) (p .1))
+  by-oldest-so w (other x b) e = allowed-so usual w (other x b) e
+
+  -- A run that passes a test of the premises is allowed with them.
+  module _ (Premises : World (pair W) → Event (pair W) → Type 0) (test : World (pair W) → Event (pair W) → Bool)
+      (so : (w : World (pair W)) (e : Event (pair W)) → test w e ≡ true → Premises w e) where
+    abbrev pub always? : World (pair W) → List (Event (pair W)) → Bool
+    always? w [] = true
+    always? w (e ∷ es) = test w e && always? (step (pair W) W w e) es
+
+    always-so : (w : World (pair W)) (es : List (Event (pair W))) → always? w es ≡ true
+        → Always (step (pair W) W) Premises w es
+    always-so w [] e = tt
+    always-so w (x ∷ es) e =
+        let p = both-true (test w x) _ e in
+        (so w x (p .0), always-so (step (pair W) W w x) es (p .1))
+
+    pub may-so : (es : List (Event (pair W))) → always? (start (pair W) controller sender) es ≡ true
+        → May W Premises es
+    may-so es e = always-so (start (pair W) controller sender) es e

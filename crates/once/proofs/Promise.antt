@@ -1,14 +1,13 @@
 -- The theorems: ends that meet the laws keep the promise. Cited by Tagged.antt and, for other
 -- ends, by the crates above.
 -- Assumes nothing.
-use Prim.Native.Nat.{ℕ, suc, _+_, _≤_, _<_}
+use Prim.Native.Nat.{ℕ, _+_, _≤_, _<_}
 use mathlib.Core.Path.{_≡_, refl, _∙_, ap}
 use mathlib.Core.Bool.{cond}
-use mathlib.Core.Logic.{_⊎_, inl, inr}
 use mathlib.Core.Option.{Option, none, some}
 use mathlib.Core.List.{List, [], _∷_, _++_}
 use native.Mathlib.Omega.{arith}
-use native.Mathlib.Decide.{decLt, ℕ-discrete}
+use native.Mathlib.Decide.{decLt}
 use native.Mathlib.Nat.{add-zero}
 use borrow.Author.Tests.{lt-ltb, le-ltb}
 use lib.ListN.{length, length-append}
@@ -52,16 +51,8 @@ module _ {E : Ends} (W : ℕ) where
       record { outs = onto-onto (p .outs) (q .outs); air = onto-onto (p .air) (q .air); answers = onto-onto (p .answers) (q .answers) }
 
   -- so what is finished stays so
-  finished-up : (w : World E) (es : List (Event E)) → finished E w ≤ finished E (run (step E W) w es)
+  pub finished-up : (w : World E) (es : List (Event E)) → finished E w ≤ finished E (run (step E W) w es)
   finished-up w es = onto-length (grown-run w es .outs)
-
--- "k being the number finished or one more", one message at a time
-pub finished-or-one-more : {E : Ends} {T : Terms E} {m : T .Memory} {w : World E} (p : Safe E T 1 m w) → (p .k ≡ finished E w) ⊎ (p .k ≡ suc (finished E w))
-finished-or-one-more {E} {w = w} p = by (ℕ-discrete (p .k) (finished E w))
-  where
-    by : Dec (p .k ≡ finished E w) → (p .k ≡ finished E w) ⊎ (p .k ≡ suc (finished E w))
-    by (yes e) = inl e
-    by (no e) = inr (omega (arith, p .finished-or, p .more))
 
 -- When all that was offered is finished, memory and outcomes are those of the whole list.
 pub whole : {E : Ends} {T : Terms E} {W : ℕ} {m : T .Memory} {w : World E} → Safe E T W m w → length (w .offered) ≤ finished E w →

@@ -1,6 +1,5 @@
 -- The laws: what each call of two ends must do, by the number of a message in the list, so that the promise holds of
--- them. proofs/Promise.antt takes them; proofs/Tags.antt gives them for tags modulo 16, one message at a time. Assumes
--- nothing.
+-- them. proofs/Promise.antt takes them; proofs/Tags.antt gives them for tags modulo 16. Assumes nothing.
 use Prim.Native.Nat.{ℕ, _+_, _≤_, _<_}
 use mathlib.Core.Path.{_≡_}
 use mathlib.Core.Option.{Option, none, some}

@@ -7,7 +7,8 @@ use mathlib.Core.Bool.{true}
 use mathlib.Core.List.{List, [], _∷_, _++_, foldl}
 use lib.ListN.{length, take}
 use Rattle.once.specs.Runs.{run, Always, rounds, Often}
-use Rattle.once.specs.World.{Ends, Event, offer, send, arrive, back, other, Origin, message, stranger, World, start, finished, sent, given, room, step}
+use Rattle.once.specs.World.{Ends, Event, offer, send, arrive, back, other, Origin, message, stranger}
+use Rattle.once.specs.World.{World, start, finished, sent, given, room, step}
 
 -- What the promise says of messages, which is in neither end's hands.
 pub record Terms (E : Ends) : Type 1 where
@@ -29,31 +30,31 @@ pub record Ages : Type 0 where
   pub request : ℕ
   pub answer : ℕ
 
--- The user's: no request 15 or more behind the last accepted, no answer 16 or more behind the one awaited.
+-- The user's: no request 15 or more behind the last accepted, no answer 16 or more behind any waiting message.
 abbrev pub usual : Ages
 usual = record { request = 15; answer = 16 }
 
 module _ (E : Ends) (T : Terms E) (W : ℕ) (A : Ages) where
-  -- The answer is not too old: it answers no message that is `A .answer` or more behind one that waits. A stranger's
-  -- never is.
+  -- The answer is not too old: where a message waits, it answers none that is `A .answer` or more behind the newest
+  -- offered, and so behind any that waits. A stranger's never is.
   abbrev pub Timely : World E → Origin → Type 0
   Timely w (message i) = finished E w < length (w .offered) → length (w .offered) ≤ i + A .answer
   Timely w stranger = Unit {0}
 
   -- The premises, event by event.
   abbrev pub Allowed : World E → Event E → Type 0
-  -- "Send N well-formed messages, no discoveries, each tagged as offering asks, one at a time": at most W wait, and an
-  -- offer beyond that is refused, whatever is offered.
+  -- "Send N well-formed messages, no discoveries, each tagged as offering asks"; "The sender may have up to four
+  -- messages waiting": at most W, and an offer beyond that is refused, whatever is offered.
   Allowed w (offer d) = room E W w ≡ true → T .Fits (w .sender) d
-  -- "which stays lent to it and may be sent any number of times". A send of a place where none waits is refused, not
-  -- forbidden.
+  -- "which stays lent to it and may be sent any number of times". A send of a place where none waits, or one that is
+  -- answered, is refused, not forbidden.
   Allowed w (send p) = p < W
   -- "The channel may lose, repeat and reorder but not alter; nothing sent earlier arrives; no request arrives 15 or
   -- more behind the last accepted; buffer lengths are allowed": only what was sent arrives, any number of times, in any
   -- order, or never.
   Allowed w (arrive j b) = (j < length (w .air)) × (w .taken ≤ (sent E w j) .0 + A .request) × T .Lendable b
-  -- "no answer 16 or more behind the one awaited": only what the controller gave comes back, as often and as late as
-  -- may be.
+  -- "no answer may arrive 16 or more behind any waiting message": only what the controller gave comes back, as often
+  -- and as late as may be.
   Allowed w (back n) = (n < length (w .answers)) × Timely w ((given E w n) .0)
   -- "nothing else comes but discoveries without writes": their answers may come back to the sender too.
   Allowed w (other x b) = T .Quiet x × T .Lendable b
@@ -68,8 +69,9 @@ module _ {E : Ends} (T : Terms E) where
   results m [] = []
   results m (d ∷ ds) = T .outcome m d ∷ results (T .carry m d) ds
 
--- "Then memory is always what the first k messages, each carried out once in order, make of it, k being the number
--- finished or one more [W more]. Each finished outcome is from that carrying out." m is the memory at the start.
+-- "Then memory is always what the first k messages, each carried out once in order, make of it"; "k lies between the
+-- number finished and four more": W more. "Each finished outcome is from that carrying out"; "Outcomes are handed over
+-- in order of tag". m is the memory at the start.
 pub record Safe (E : Ends) (T : Terms E) (W : ℕ) (m : T .Memory) (w : World E) : Type 0 where
   pub k : ℕ
   pub finished-or : finished E w ≤ k
@@ -104,10 +106,10 @@ module _ (E : Ends) (T : Terms E) (W : ℕ) (A : Ages) (c : E .Controller) (s : 
   Safety = (es : List (Event E)) → AllowedRun es → Safe E T W (T .memory c) (after E W c s es)
 
   -- "If sending goes on and of any L sends in a row (L at least 1) one arrives and its answer is back before the next
-  -- send, all are finished by send N times L": for each number K of messages, and from any moment on. The sends that
-  -- count are those of the oldest waiting message, and which of them count is free: a round may hold others. One when
-  -- nothing waits hands back nothing: it counts among the L, and is not the good one. When K are finished, no more is
-  -- asked of the sends.
+  -- send, all are finished by send N times L": for each number K of messages, and from any moment on. "L counts sends
+  -- of the oldest unfinished message", and which of them count is free: a round may hold others. One when nothing waits
+  -- hands back nothing: it counts among the L, and is not the good one. When K are finished, no more is asked of the
+  -- sends.
   abbrev pub Progress : Type 0
   Progress =
       (es : List (Event E)) (rs : List (List (Event E))) (K L : ℕ) → AllowedRun (es ++ rounds (step E W) (send 0) rs) →

@@ -1,6 +1,6 @@
-// Runs the sender into every refusal 30 to 38, takes an answer, starts from discoveries' answers, and reads an outcome
-// with an Error in the middle, on the real functions; prints what each call gave: its refusal, 0 for none, and the
-// sender then.
+// Runs the sender into every refusal 30 to 38, has four messages wait and takes their answers crossed, starts from
+// discoveries' answers, and reads an outcome with an Error in the middle, on the real functions; prints what each call
+// gave: its refusal, 0 for none, and the sender then.
 use header::refusal::Refusal;
 use initiator::outcome;
 use initiator::outcome::Ending;
@@ -16,16 +16,23 @@ fn say_refusal(refusal: Refusal) {
     show::number(b" at ", refusal.at as u64);
 }
 
+// The sender: its next tag, how many wait, and which of them are answered.
 fn say_sender(s: Sender) {
     show::number(b", next ", s.next as u64);
-    if s.waits {
-        show::say(b", waiting\n");
-        return;
-    }
-    show::say(b", idle\n");
+    show::number(b", waiting ", s.waiting as u64);
+    say_answered(s.second, b", second answered");
+    say_answered(s.third, b", third answered");
+    say_answered(s.fourth, b", fourth answered");
+    show::say(b"\n");
 }
 
-// What a call that may move the sender gave; hands the sender on.
+fn say_answered(answered: bool, text: &[u8]) {
+    if answered {
+        show::say(text);
+    }
+}
+
+// What an offer or a discovery gave; hands the sender on.
 fn told(moved: Moved) -> Sender {
     let s = moved.sender;
     say_refusal(moved.refusal);
@@ -52,11 +59,16 @@ fn sends(s: Sender, message: Bytes) -> Sender {
 fn takes(s: Sender, message: Bytes, answer: Bytes) -> Sender {
     let bytes = message.bytes;
     let back = answer.bytes;
-    told(sender::take(
+    let taken = sender::take(
         s,
         show::front(&bytes, message.n),
         show::front(&back, answer.n),
-    ))
+    );
+    let after = taken.sender;
+    say_refusal(taken.refusal);
+    show::number(b", ended ", taken.ended as u64);
+    say_sender(after);
+    after
 }
 
 fn discovers(answer: Bytes) -> Sender {
@@ -69,9 +81,9 @@ fn step(i: usize, before: Sender) -> Sender {
     steps::say_label(i);
     let s = steps::start(i, before);
     match i {
-        4 | 7 | 8 => sends(s, steps::request(i)),
-        0..=6 | 22 => offers(s, steps::request(i)),
-        9..=17 => takes(s, steps::request(i), steps::answer(i)),
+        5 | 11..=13 => sends(s, steps::request(i)),
+        0..=10 | 21 | 23 | 35 => offers(s, steps::request(i)),
+        14..=30 => takes(s, steps::request(i), steps::answer(i)),
         _ => discovers(steps::answer(i)),
     }
 }

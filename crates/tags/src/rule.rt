@@ -1,36 +1,40 @@
 // The rule of tags: what a message's tag says against the record.
 ghost use mathlib.Core.Path.{_≡_};
 ghost use mathlib.Core.Bool.{true};
-ghost use Rattle.tags.specs.Record.{recordOk};
-ghost use Rattle.tags.specs.Rule.{repeats, expected, ruleOf};
+ghost use Prim.Native.Nat.{_<_};
+ghost use Rattle.header.specs.Limits.{tagCount};
+ghost use Rattle.tags.specs.Record.{recordOk, holds};
+ghost use Rattle.tags.specs.Rule.{expected, ruleOf};
 use crate::record::TagRecord;
+use header::limits;
 use header::refusal::Refusal;
 
-// What is to be done about a datagram.
+// What is to be done about a datagram. A repeat is one of this tag.
 pub enum Verdict {
     Refused(Refusal),
     New,
-    Repeat,
+    Repeat(u32),
     Discovery,
 }
 
-// Whether a tag is the stored one.
-fn repeats(tags: TagRecord, tag: u32) -> bool
-    ensures { λ r. ⌜ r ≡ repeats tags tag ⌝ }
+// Whether a tag is one of those that are held: so far back from the newest.
+fn holds(tags: TagRecord, tag: u32) -> bool
+    requires { ⌜ (recordOk tags ≡ true) × (tag < tagCount) ⌝ }
+    ensures { λ r. ⌜ r ≡ holds tags tag ⌝ }
 {
-    if tags.fresh {
+    if tags.held == 0 {
         return false;
     }
-    tag == tags.tag
+    (tags.tag + limits::TAGS - tag) % limits::TAGS < tags.held
 }
 
-// Whether a tag is new: any is for a fresh record, else the one after the stored one.
+// Whether a tag is new: 0 for a fresh record, else the one after the newest.
 fn expected(tags: TagRecord, tag: u32) -> bool
     requires { ⌜ recordOk tags ≡ true ⌝ }
     ensures { λ r. ⌜ r ≡ expected tags tag ⌝ }
 {
-    if tags.fresh {
-        return true;
+    if tags.held == 0 {
+        return tag == 0;
     }
     tag == header::next_tag(tags.tag)
 }
@@ -44,8 +48,8 @@ pub fn rule(tags: TagRecord, byte0: u32) -> Verdict
         return Verdict::Discovery;
     }
     let tag = header::tag(byte0);
-    if repeats(tags, tag) {
-        return Verdict::Repeat;
+    if holds(tags, tag) {
+        return Verdict::Repeat(tag);
     }
     if expected(tags, tag) {
         return Verdict::New;

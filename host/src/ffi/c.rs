@@ -1,6 +1,8 @@
 //! The declarations of `include/charkhavo.h`, in its order: the records as C lays them out, and
 //! the libraries' functions. What each means stands there.
 
+use crate::limits::PLACES;
+
 // Lengths are 64 bits wide in the libraries, on every processor; here they are `usize`.
 const _: () = assert!(usize::BITS == 64);
 
@@ -15,10 +17,10 @@ pub struct Refused {
 #[repr(C)]
 #[derive(Clone, Copy, Debug, PartialEq, Eq)]
 pub struct TagRecord {
-    pub fresh: bool,
+    pub held: u32,
     pub tag: u32,
-    pub words: usize,
-    pub request: usize,
+    pub words: [u32; PLACES],
+    pub request: [u32; PLACES],
 }
 
 #[repr(C)]
@@ -50,8 +52,11 @@ pub struct Discovery {
 #[repr(C)]
 #[derive(Clone, Copy, Debug, PartialEq, Eq)]
 pub struct Sender {
-    pub next: u32,
-    pub waits: bool,
+    pub next: u8,
+    pub waiting: u8,
+    pub second: bool,
+    pub third: bool,
+    pub fourth: bool,
 }
 
 #[repr(C)]
@@ -59,6 +64,14 @@ pub struct Sender {
 pub struct Moved {
     pub refusal: Refused,
     pub sender: Sender,
+}
+
+#[repr(C)]
+#[derive(Clone, Copy, Debug, PartialEq, Eq)]
+pub struct Taken {
+    pub refusal: Refused,
+    pub sender: Sender,
+    pub ended: u8,
 }
 
 #[repr(C)]
@@ -139,7 +152,7 @@ extern "C" {
         message_length: usize,
         answer: *const u8,
         answer_length: usize,
-    ) -> Moved;
+    ) -> Taken;
     pub(super) fn charkhavo_count(
         request: *const u8,
         request_length: usize,

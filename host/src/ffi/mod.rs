@@ -16,8 +16,9 @@ pub mod before;
 mod c;
 
 pub use c::TagRecord;
-pub use c::{Building, Discovery, Moved, Part, Refused, Sender, Sending, Sent};
+pub use c::{Building, Discovery, Moved, Part, Refused, Sender, Sending, Sent, Taken};
 
+use crate::limits::PLACES;
 use crate::refusal::Refusal;
 
 impl Refused {
@@ -42,6 +43,12 @@ impl Building {
         answer: 0,
         closed: false,
     };
+}
+
+impl TagRecord {
+    /// The record of a controller that starts: none is held.
+    pub const FRESH: TagRecord =
+        TagRecord { held: 0, tag: 0, words: [0; PLACES], request: [0; PLACES] };
 }
 
 /// Serves one datagram: 1 to 12.
@@ -150,14 +157,14 @@ pub fn offer(sender: Sender, message: &[u8]) -> Moved {
     unsafe { c::charkhavo_offer(sender, message.as_ptr(), message.len()) }
 }
 
-/// Whether the waiting message may go out, and its length: 37, 30, 31.
+/// Whether a waiting message may go out, and its length: 37, 30, 31.
 pub fn send(sender: Sender, message: &[u8]) -> Sending {
     // Sound: the message is only read; the record goes by value.
     unsafe { c::charkhavo_send(sender, message.as_ptr(), message.len()) }
 }
 
-/// Takes an answer to the waiting message: 37, 30, 31, 32 to 35.
-pub fn take(sender: Sender, message: &[u8], answer: &[u8]) -> Moved {
+/// Takes an answer to a waiting message: 37, 30, 31, 32 to 35.
+pub fn take(sender: Sender, message: &[u8], answer: &[u8]) -> Taken {
     let (back, length) = (answer.as_ptr(), answer.len());
     // Sound: message and answer are only read; the record goes by value.
     unsafe { c::charkhavo_take(sender, message.as_ptr(), message.len(), back, length) }

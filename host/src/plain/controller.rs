@@ -2,70 +2,9 @@
 //! to 12. The datagram is walked once, then carried out once; nothing is allocated.
 
 use super::message::{self, Header, Kind, Walked, WordBytes};
-use crate::limits::{BYTES, MEMORY, WORDS};
+use super::tags::{place_of, TagRecord, Verdict};
+use crate::limits::{BYTES, KEPT, MEMORY, STORED, WORDS};
 use crate::refusal::Refusal;
-
-/// What the controller keeps between calls besides memory, stored answer and kept request.
-#[derive(Clone, Copy, Debug, PartialEq, Eq)]
-pub struct TagRecord {
-    /// No tag yet; the other fields are then not looked at.
-    pub fresh: bool,
-    /// The tag of the last new message.
-    pub tag: u32,
-    /// The length of the stored answer.
-    pub words: usize,
-    /// The length of the kept request, in words.
-    pub request: usize,
-}
-
-impl TagRecord {
-    /// The least length of the stored answer, and the most that `words` and `request` may say.
-    pub const WORDS: usize = WORDS;
-    /// The least length of the kept request and of the output.
-    pub const BYTES: usize = BYTES;
-    /// The most words of memory; the least is 1.
-    pub const MEMORY: usize = MEMORY;
-    /// Advertisement word 0.
-    pub const ADVERTISEMENT: u32 = BYTES as u32;
-    /// Advertisement word 1 is the stored tag plus this, or 0 where none is stored.
-    pub const TAG_STORED: u32 = 16;
-
-    pub const fn fresh() -> TagRecord {
-        TagRecord { fresh: true, tag: 0, words: 0, request: 0 }
-    }
-
-    fn is_allowed(&self) -> bool {
-        let lengths = 1..=TagRecord::WORDS;
-        let held = lengths.contains(&self.words) && lengths.contains(&self.request);
-        self.fresh || (self.tag <= 15 && held)
-    }
-
-    /// What is to be done with a well-formed message of this header; 11 if it is out of step.
-    fn verdict(&self, header: Header) -> Result<Verdict, Refusal> {
-        if header.discovery() {
-            Ok(Verdict::Discovery)
-        } else if self.fresh || header.tag() == (self.tag + 1) % 16 {
-            Ok(Verdict::New)
-        } else if header.tag() == self.tag {
-            Ok(Verdict::Repeat)
-        } else {
-            Err(Refusal::OUT_OF_STEP)
-        }
-    }
-
-    /// The completer's advertisement, as a NOP's answer carries it.
-    fn advertisement(&self) -> [u32; 2] {
-        let stored = if self.fresh { 0 } else { self.tag + TagRecord::TAG_STORED };
-        [TagRecord::ADVERTISEMENT, stored]
-    }
-}
-
-#[derive(PartialEq)]
-enum Verdict {
-    New,
-    Repeat,
-    Discovery,
-}
 
 /// What a call gives back: the refusal (number 0 for none), and how many of the output's
 /// first bytes are to be sent (0 with a refusal).
@@ -106,12 +45,16 @@ fn answer_words(
     }
     let request = message::walk(datagram)?;
     let (output, _) = output.as_chunks_mut();
+    let place = place_of(request.first.tag());
+    let (kept, stored) = (&mut kept[BYTES * place..], &mut stored[WORDS * place..]);
     let verdict = tags.verdict(request.first)?;
     let stored = match verdict {
-        Verdict::Repeat if kept[..4 * tags.request] != *datagram => {
-            return Err(Refusal::OTHER_BYTES);
+        Verdict::Repeat => {
+            if kept[..4 * tags.request[place] as usize] != *datagram {
+                return Err(Refusal::OTHER_BYTES);
+            }
+            return Ok(send_again(&stored[..tags.words[place] as usize], output));
         }
-        Verdict::Repeat => return Ok(send_again(&stored[..tags.words], output)),
         Verdict::New => {
             kept[..datagram.len()].copy_from_slice(datagram);
             &mut stored[..request.answer]
@@ -121,17 +64,16 @@ fn answer_words(
     let answer = Answer::new(&mut output[..request.answer], stored);
     let words = carry_out(memory, &request, tags, answer);
     if verdict == Verdict::New {
-        let (tag, request) = (request.first.tag(), request.words.len());
-        *tags = TagRecord { fresh: false, tag, words, request };
+        tags.hold(request.first.tag(), words, request.words.len());
     }
     Ok(words)
 }
 
 fn lengths_allowed(memory: &[u32], stored: &[u32], kept: &[u8], output: &[u8]) -> bool {
-    (1..=TagRecord::MEMORY).contains(&memory.len())
-        && stored.len() >= TagRecord::WORDS
-        && kept.len() >= TagRecord::BYTES
-        && output.len() >= TagRecord::BYTES
+    (1..=MEMORY).contains(&memory.len())
+        && stored.len() >= STORED
+        && kept.len() >= KEPT
+        && output.len() >= BYTES
 }
 
 /// Sends the stored answer; gives its words.

@@ -1,5 +1,6 @@
-//! The ordinary implementation of document 01, both ends, without allocation. It knows nothing
-//! of the libraries; it shares the limits and the refusals' names with their wrappers.
+//! The ordinary implementation of document 01 and of the requests that have landed, both ends,
+//! without allocation. It knows nothing of the libraries; it shares the limits and the refusals'
+//! names with their wrappers.
 
 #![forbid(unsafe_code)]
 
@@ -9,7 +10,9 @@ pub mod controller;
 pub mod message;
 pub mod outcome;
 pub mod sender;
+mod tags;
 
 pub use builder::{Addition, Building};
-pub use controller::{serve, Served, TagRecord};
+pub use controller::{serve, Served};
 pub use sender::Sender;
+pub use tags::TagRecord;

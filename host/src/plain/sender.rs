@@ -1,18 +1,20 @@
-//! The loader's sender: at most one message waits, lent by the caller at each call. Refusals
-//! 30 to 38; with one, the sender has not changed.
+//! The loader's sender: up to four messages wait, each lent by the caller at the calls about it.
+//! Refusals 30 to 38; with one, the sender has not changed.
 
 use super::answer::judge;
 use super::message::{walk, Walked};
-use crate::limits::BYTES;
+use crate::limits::{BYTES, PLACES};
 use crate::refusal::Refusal;
 
 /// The sender's record. Its fields can be set by anybody; each call judges them first.
 #[derive(Clone, Copy, Debug, PartialEq, Eq)]
 pub struct Sender {
-    /// The tag of the next message, or of the waiting one while one waits.
-    pub next: u32,
-    /// Whether a message waits for its answer.
-    pub waits: bool,
+    /// The tag of the oldest message that waits, or of the one to offer where none does.
+    pub next: u8,
+    /// How many messages wait, their tags one after another.
+    pub waiting: u8,
+    /// Which of the three behind the oldest are answered; of those that do not wait it says nothing.
+    pub answered: [bool; PLACES - 1],
 }
 
 /// The fixed discovery, a NOP of two words whose answer tells a sender where to begin.
@@ -24,11 +26,16 @@ pub const DISCOVERY: [u8; 12] = {
 
 impl Sender {
     /// What a refused discovery answer leaves the caller with: 37 stops any use of it.
-    pub const UNUSABLE: Sender = Sender { next: 16, waits: false };
+    pub const UNUSABLE: Sender = Sender::idle(16);
+
+    /// A sender at which none waits.
+    pub const fn idle(next: u8) -> Sender {
+        Sender { next, waiting: 0, answered: [false; PLACES - 1] }
+    }
 
     /// The sender for a fresh pair.
     pub const fn fresh() -> Sender {
-        Sender { next: 0, waits: false }
+        Sender::idle(0)
     }
 
     /// The sender that an answer to the fixed discovery tells of: 32 to 35, then 38.
@@ -41,59 +48,88 @@ impl Sender {
         let (_, last) = answer.split_last_chunk().ok_or(Refusal::ANSWER_LENGTH)?;
         match u32::from_le_bytes(*last) {
             0 => Ok(Sender::fresh()),
-            stored @ 16..=31 => Ok(Sender { next: (stored + 1) % 16, waits: false }),
+            newest @ 16..=31 => Ok(Sender::idle((newest as u8 + 1) % 16)),
             _ => Err(Refusal::DISCOVERY),
         }
     }
 
     /// Offers a message, which then waits: 37, 36, 31.
     pub fn offer(&mut self, request: &[u8]) -> Result<(), Refusal> {
-        self.check_next()?;
-        if self.waits {
-            return Err(Refusal::ONE_WAITS);
+        self.check_record()?;
+        if usize::from(self.waiting) == PLACES {
+            return Err(Refusal::FOUR_WAIT);
         }
-        self.check_request(request)?;
-        self.waits = true;
+        let request = sendable(request)?;
+        if self.place_of(&request) != self.waiting.into() {
+            return Err(Refusal::REQUEST);
+        }
+        self.clear();
+        self.waiting += 1;
         Ok(())
     }
 
-    /// Hands back the waiting message's own bytes, any number of times: 37, 30, 31.
+    /// Hands back a waiting message's own bytes, any number of times: 37, 30, 31.
     pub fn send<'a>(&self, request: &'a [u8]) -> Result<&'a [u8], Refusal> {
         self.check_waiting(request)?;
         Ok(request)
     }
 
-    /// Takes an answer, which ends the waiting message: 37, 30, 31, then 32 to 35.
-    pub fn take(&mut self, request: &[u8], answer: &[u8]) -> Result<(), Refusal> {
+    /// Takes an answer to a waiting message: 37, 30, 31, then 32 to 35. Gives how many messages end:
+    /// an answer to the oldest ends it and the answered ones right behind it.
+    pub fn take(&mut self, request: &[u8], answer: &[u8]) -> Result<u8, Refusal> {
         let request = self.check_waiting(request)?;
         judge(&request, answer, |_| ())?;
-        *self = Sender { next: (self.next + 1) % 16, waits: false };
-        Ok(())
+        self.clear();
+        match self.place_of(&request) {
+            0 => Ok(self.end_oldest()),
+            place => {
+                self.answered[place - 1] = true;
+                Ok(0)
+            }
+        }
     }
 
-    fn check_next(&self) -> Result<(), Refusal> {
-        if self.next > 15 {
-            Err(Refusal::NEXT_TAG)
+    fn end_oldest(&mut self) -> u8 {
+        let ended = 1 + self.answered.iter().take_while(|answered| **answered).count();
+        let mut answered = [false; PLACES - 1];
+        for (to, from) in answered.iter_mut().zip(self.answered.iter().skip(ended)) {
+            *to = *from;
+        }
+        let ended = ended as u8;
+        *self = Sender { next: (self.next + ended) % 16, waiting: self.waiting - ended, answered };
+        ended
+    }
+
+    /// Forgets what the record says of messages that do not wait.
+    fn clear(&mut self) {
+        self.answered[usize::from(self.waiting.max(1)) - 1..].fill(false);
+    }
+
+    fn check_record(&self) -> Result<(), Refusal> {
+        if self.next > 15 || usize::from(self.waiting) > PLACES {
+            Err(Refusal::SENDER)
         } else {
             Ok(())
         }
     }
 
     fn check_waiting<'a>(&self, request: &'a [u8]) -> Result<Walked<'a>, Refusal> {
-        self.check_next()?;
-        if !self.waits {
+        self.check_record()?;
+        if self.waiting == 0 {
             return Err(Refusal::NONE_WAITS);
         }
-        self.check_request(request)
-    }
-
-    /// 31 in all its clauses.
-    fn check_request<'a>(&self, request: &'a [u8]) -> Result<Walked<'a>, Refusal> {
-        let walked = sendable(request)?;
-        if walked.first.tag() != self.next {
+        let request = sendable(request)?;
+        let place = self.place_of(&request);
+        let waits = place < self.waiting.into();
+        if !waits || (place > 0 && self.answered[place - 1]) {
             return Err(Refusal::REQUEST);
         }
-        Ok(walked)
+        Ok(request)
+    }
+
+    /// How far a message's tag is behind the next one, modulo 16: its place among those that wait.
+    fn place_of(&self, request: &Walked) -> usize {
+        (request.first.tag() as usize + 16 - usize::from(self.next)) % 16
     }
 }
 

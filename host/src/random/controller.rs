@@ -2,8 +2,9 @@
 
 use super::requests::{damaged, request, Wish};
 use super::Random;
-use crate::limits::{BYTES, MEMORY, WORDS};
+use crate::limits::{BYTES, KEPT, MEMORY, PLACES, STORED, WORDS};
 use crate::plain::TagRecord;
+use std::array;
 
 /// All that a controller call is lent. Clone it, give one to each implementation, and compare
 /// what they make of it.
@@ -18,9 +19,10 @@ pub struct Lent {
 }
 
 impl Lent {
-    /// The kept request, where record and buffer are allowed.
-    pub fn request(&self) -> &[u8] {
-        &self.kept[..4 * self.tags.request]
+    /// The kept request of a tag, where record and buffer are allowed.
+    pub fn request(&self, tag: u32) -> &[u8] {
+        let place = tag as usize % PLACES;
+        &self.kept[BYTES * place..][..4 * self.tags.request[place] as usize]
     }
 }
 
@@ -32,17 +34,19 @@ pub fn lent(random: &mut Random) -> Lent {
     let wish = Wish::random(random, tag, memory);
     let whole = request(random, wish);
     let datagram = if random.one_in(2) { damaged(random, &whole) } else { whole };
-    let stored = length_from(random, WORDS);
-    let kept = length_from(random, BYTES);
+    let stored = length_from(random, STORED);
+    let kept = length_from(random, KEPT);
     let output = length_from(random, BYTES);
     let mut kept = random.bytes(kept);
+    let place = tag as usize % PLACES;
     match random.below(8) {
         0 => {}
         1 => {
             let another = request(random, wish);
-            keep(random, &mut kept, &mut tags, &another);
+            keep(random, &mut kept, &mut tags, place, &another);
         }
-        _ => keep(random, &mut kept, &mut tags, &datagram),
+        2 => keep(random, &mut kept, &mut tags, (place + 1) % PLACES, &datagram),
+        _ => keep(random, &mut kept, &mut tags, place, &datagram),
     }
     Lent {
         memory: random.words(memory),
@@ -54,32 +58,34 @@ pub fn lent(random: &mut Random) -> Lent {
     }
 }
 
-/// Keeps a request, where buffer and record have room for it: mostly as it is, else with a bit
-/// of one byte altered, or another length said of the same bytes.
-fn keep(random: &mut Random, kept: &mut [u8], tags: &mut TagRecord, request: &[u8]) {
+/// Keeps a request at a place, where buffer and record have room for it: mostly as it is, else with
+/// a bit of one byte altered, or another length said of the same bytes.
+fn keep(random: &mut Random, kept: &mut [u8], tags: &mut TagRecord, place: usize, request: &[u8]) {
     let (lengths, words) = (1..=WORDS, request.len() / 4);
-    let held = lengths.contains(&tags.request) && lengths.contains(&words);
+    let held = lengths.contains(&(tags.request[place] as usize)) && lengths.contains(&words);
+    let Some(kept) = kept.get_mut(BYTES * place..) else { return };
     if !held || request.len() > kept.len() {
         return;
     }
     kept[..request.len()].copy_from_slice(request);
-    tags.request = words;
+    let mut said = words;
     match random.below(8) {
         0 | 1 => {
             let any = random.below(request.len());
-            let place = random.pick(&[0, 1, request.len() - 1, any]);
-            kept[place] ^= 1 << random.below(8);
+            let byte = random.pick(&[0, 1, request.len() - 1, any]);
+            kept[byte] ^= 1 << random.below(8);
         }
         2 => {
             let any = random.between(1, words);
-            tags.request = random.pick(&[any, words - 1]).max(1);
+            said = random.pick(&[any, words - 1]).max(1);
         }
         3 => {
             let any = random.between(words, WORDS);
-            tags.request = random.pick(&[any, words + 1]).min(WORDS);
+            said = random.pick(&[any, words + 1]).min(WORDS);
         }
         _ => {}
     }
+    tags.request[place] = said as u32;
 }
 
 /// Words of memory: mostly few, so that ranges pass the end; seldom none or too many.
@@ -104,38 +110,60 @@ pub fn length_from(random: &mut Random, least: usize) -> usize {
     }
 }
 
-/// A tag record: fresh (its other fields being anything), allowed, or wrong in a field.
+/// A tag record: fresh (its other fields being anything), allowed, or wrong in a field. What it says
+/// of places that are not held is anything.
 pub fn record(random: &mut Random) -> TagRecord {
-    let (words, request) = (words(random), words(random));
-    let allowed = TagRecord { fresh: false, tag: random.word() % 16, words, request };
-    match random.below(100) {
-        0 => TagRecord { tag: 16, ..allowed },
-        1 => TagRecord { tag: random.word(), ..allowed },
-        2 => TagRecord { words: 0, ..allowed },
-        3 => TagRecord { words: WORDS + 1, ..allowed },
-        4 => TagRecord { words: random.long() as usize, ..allowed },
-        5 => TagRecord { request: 0, ..allowed },
-        6 => TagRecord { request: WORDS + 1, ..allowed },
-        7 => TagRecord { request: random.long() as usize, ..allowed },
-        8 => {
-            let (words, request) = (random.long() as usize, random.long() as usize);
-            TagRecord { fresh: true, tag: random.word(), words, request }
-        }
-        9..=20 => TagRecord::fresh(),
-        _ => allowed,
+    let held = random.pick(&[1, 2, 3, 4, 4, 4]);
+    let tag = random.word() % 16;
+    let mut record = TagRecord { held, tag, words: lengths(random), request: lengths(random) };
+    for back in held..PLACES as u32 {
+        let place = place_behind(tag, back);
+        (record.words[place], record.request[place]) = (any_length(random), any_length(random));
     }
+    // Any place, held or not.
+    let place = random.below(PLACES);
+    match random.below(100) {
+        0 => record.tag = 16,
+        1 => record.tag = random.word(),
+        2 => record.held = 5,
+        3 => record.held = random.word(),
+        4..=7 => record.words[place] = any_length(random),
+        8..=11 => record.request[place] = any_length(random),
+        12 => (record.held, record.tag) = (0, random.word()),
+        13..=20 => record.held = 0,
+        21..=24 => record = TagRecord::fresh(),
+        _ => {}
+    }
+    record
 }
 
-/// A length that a record may hold.
-fn words(random: &mut Random) -> usize {
-    random.pick(&[1, 2, WORDS - 1, WORDS]).max(random.below(WORDS + 1))
+/// The place of the message that is so far back from the newest.
+fn place_behind(newest: u32, back: u32) -> usize {
+    newest.wrapping_sub(back) as usize % PLACES
 }
 
-/// A tag that is mostly the next one or the stored one.
+/// Lengths that a record may hold.
+fn lengths(random: &mut Random) -> [u32; PLACES] {
+    array::from_fn(|_| {
+        let words = random.pick(&[1, 2, WORDS - 1, WORDS]).max(random.below(WORDS + 1));
+        words as u32
+    })
+}
+
+/// A length that a held place may have or not: near both ends of what is allowed, and any.
+fn any_length(random: &mut Random) -> u32 {
+    let most = WORDS as u32;
+    let any = random.word();
+    random.pick(&[0, 0, 1, most, most + 1, most + 1, any, any])
+}
+
+/// A tag that is mostly the next one or one that is held.
 pub fn tag_near(random: &mut Random, tags: &TagRecord) -> u32 {
+    let next = if tags.held == 0 { 0 } else { tags.tag.wrapping_add(1) % 16 };
+    let back = random.below(6) as u32;
     match random.below(8) {
-        0..=3 => tags.tag.wrapping_add(1) % 16,
-        4 | 5 => tags.tag % 16,
+        0..=3 => next,
+        4..=6 => tags.tag.wrapping_sub(back) % 16,
         _ => random.word() % 16,
     }
 }

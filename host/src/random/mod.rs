@@ -48,12 +48,22 @@ impl Random {
         from[self.below(from.len())]
     }
 
+    /// Two at a time, as bytes are eight at a time: the buffers are long.
     pub fn words(&mut self, count: usize) -> Vec<u32> {
-        (0..count).map(|_| self.word()).collect()
+        let mut words = vec![0; count];
+        for two in words.chunks_mut(2) {
+            let long = self.long();
+            two.copy_from_slice(&[long as u32, (long >> 32) as u32][..two.len()]);
+        }
+        words
     }
 
     pub fn bytes(&mut self, count: usize) -> Vec<u8> {
-        (0..count).map(|_| self.word() as u8).collect()
+        let mut bytes = vec![0; count];
+        for eight in bytes.chunks_mut(8) {
+            eight.copy_from_slice(&self.long().to_le_bytes()[..eight.len()]);
+        }
+        bytes
     }
 }
 

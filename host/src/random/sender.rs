@@ -3,10 +3,12 @@
 
 use super::requests::{damaged, request, Wish};
 use super::{bytes_of, Random};
-use crate::limits::{BYTES, WORDS};
+use crate::limits::{BYTES, KEPT, PLACES, STORED};
 use crate::plain::message::{commands, walk, Header};
 use crate::plain::sender::DISCOVERY;
 use crate::plain::{serve, Sender, TagRecord};
+use std::array;
+use std::cell::RefCell;
 
 /// What a sender's call is lent.
 #[derive(Clone, Debug)]
@@ -16,7 +18,7 @@ pub struct Lent {
     pub answer: Vec<u8>,
 }
 
-/// Mostly a waiting sender, its own well-formed request, and an answer near the true one.
+/// Mostly a sender at which the request waits, well-formed, and an answer near the true one.
 pub fn lent(random: &mut Random) -> Lent {
     let tag = random.word() % 16;
     let wish = Wish::random(random, tag, 64);
@@ -26,14 +28,30 @@ pub fn lent(random: &mut Random) -> Lent {
     Lent { sender: sender(random, tag), request, answer }
 }
 
-/// A sender's record, mostly with this next tag.
+/// A sender's record: mostly one at which a message of this tag waits, else one that it may be
+/// offered to, or any. What it says of the others is anything.
 pub fn sender(random: &mut Random, tag: u32) -> Sender {
-    let next = match random.below(16) {
-        0 => random.pick(&[16, 17, u32::MAX]),
-        1 => random.word() % 16,
-        _ => tag,
+    let mut answered = array::from_fn(|_| random.one_in(2));
+    let (waiting, place) = match random.below(8) {
+        0..=4 => {
+            let waiting = random.between(1, PLACES);
+            let place = random.below(waiting);
+            if place > 0 && !random.one_in(8) {
+                answered[place - 1] = false;
+            }
+            (waiting, place)
+        }
+        5 | 6 => {
+            let waiting = random.below(PLACES);
+            (waiting, waiting)
+        }
+        _ => (random.below(PLACES + 3), random.below(16)),
     };
-    Sender { next, waits: !random.one_in(4) }
+    let next = match random.below(16) {
+        0 => random.pick(&[16, 17, u8::MAX]),
+        _ => (tag as u8 + 16 - place as u8) % 16,
+    };
+    Sender { next, waiting: waiting as u8, answered }
 }
 
 /// An answer to a well-formed request, of any sort.
@@ -50,19 +68,30 @@ pub fn answer(random: &mut Random, request: &[u8]) -> Vec<u8> {
     }
 }
 
+thread_local! {
+    /// Stored answers, kept requests and output of a controller, lent to one call after the other:
+    /// what stands in them does not matter.
+    static BUFFERS: RefCell<(Vec<u32>, Vec<u8>, Vec<u8>)> =
+        RefCell::new((vec![0; STORED], vec![0; KEPT], vec![0; BYTES]));
+}
+
 /// What a controller over some memory, with this message new, answers.
 pub fn true_answer(random: &mut Random, request: &[u8]) -> Vec<u8> {
     let words = random.between(1, 80);
     let mut memory = random.words(words);
-    let tag = random.word() % 16;
-    let mut tags = match Header(u32::from(request[0])).discovery() && !random.one_in(4) {
-        true => TagRecord { fresh: false, tag, words: 1, request: 1 },
-        false => TagRecord::fresh(),
+    let header = Header(u32::from(request[0]));
+    let newest = match header.discovery() {
+        true => random.word() % 16,
+        false => header.tag().wrapping_sub(1) % 16,
     };
-    let (mut stored, mut kept, mut output) = (vec![0; WORDS], vec![0; BYTES], vec![0; BYTES]);
-    let served = serve(&mut memory, &mut stored, &mut kept, &mut output, &mut tags, request);
-    output.truncate(served.sent);
-    output
+    let mut tags = match header.discovery() && random.one_in(4) {
+        true => TagRecord::fresh(),
+        false => TagRecord { held: 1, tag: newest, words: [1; PLACES], request: [1; PLACES] },
+    };
+    BUFFERS.with_borrow_mut(|(stored, kept, output)| {
+        let served = serve(&mut memory, stored, kept, output, &mut tags, request);
+        output[..served.sent].to_vec()
+    })
 }
 
 /// The answer to the same kind of message under another tag, or to another message.

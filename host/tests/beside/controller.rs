@@ -12,9 +12,12 @@ fn controller_calls() {
     let mut random = Random::new(SEED);
     let (mut seen, mut requests) = (Seen::default(), Seen::default());
     let (mut met, mut differing) = (Met::default(), Differing::default());
+    let mut ours = lent(&mut random);
+    let mut other = ours.clone();
     for round in 0..ROUNDS {
         let given = lent(&mut random);
-        let (mut ours, mut other) = (given.clone(), given.clone());
+        copy(&given, &mut ours);
+        copy(&given, &mut other);
         let (refusal, sent) = serve::<Ours>(&mut ours);
         assert_eq!((refusal, sent), serve::<Other>(&mut other), "round {round}: {given:?}");
         assert!(ours == other, "round {round}: {given:?}");
@@ -24,7 +27,7 @@ fn controller_calls() {
         requests.note(well_formed.number);
         met.note((refusal, sent), &given, &ours);
         if refusal.number == 12 {
-            differing.note(given.request(), &given.datagram);
+            differing.note(given.request(tag_of(&given)), &given.datagram);
         }
     }
     seen.exactly(0..=12);
@@ -33,17 +36,32 @@ fn controller_calls() {
     differing.all();
 }
 
+/// A copy in the buffers that there are: a million rounds would pay for others.
+fn copy(from: &Lent, to: &mut Lent) {
+    to.memory.clone_from(&from.memory);
+    to.stored.clone_from(&from.stored);
+    to.kept.clone_from(&from.kept);
+    to.output.clone_from(&from.output);
+    to.datagram.clone_from(&from.datagram);
+    to.tags = from.tags;
+}
+
+fn tag_of(lent: &Lent) -> u32 {
+    u32::from(lent.datagram[0] & 15)
+}
+
 fn serve<E: Ends>(lent: &mut Lent) -> Given<usize> {
     let Lent { memory, stored, kept, output, tags, datagram } = lent;
     E::serve(memory, stored, kept, output, tags, datagram)
 }
 
-/// How often each way of being served came, memory was changed, a later header refused, and a
-/// request or a sent answer had the limit's length.
+/// How often each way of being served came (new messages by how many were held, repeats by how far
+/// back from the newest they are), memory was changed, a later header refused, and a request or a
+/// sent answer had the limit's length.
 #[derive(Default)]
 struct Met {
-    new: usize,
-    repeats: usize,
+    new: [usize; 5],
+    repeats: [usize; 4],
     discoveries: usize,
     changes: usize,
     later: usize,
@@ -60,9 +78,9 @@ impl Met {
         if before.datagram[0] & 0x80 != 0 {
             self.discoveries += 1;
         } else if before.tags != after.tags {
-            self.new += 1;
+            self.new[before.tags.held as usize] += 1;
         } else {
-            self.repeats += 1;
+            self.repeats[((before.tags.tag + 16 - tag_of(before)) % 16) as usize] += 1;
         }
         self.changes += usize::from(before.memory != after.memory);
         self.full_requests += usize::from(before.datagram.len() == BYTES);
@@ -71,7 +89,8 @@ impl Met {
 
     fn all(&self) {
         let Met { new, repeats, discoveries, changes, later, full_requests, full_answers } = *self;
-        let met = [new, repeats, discoveries, changes, later, full_requests, full_answers];
+        let others = [discoveries, changes, later, full_requests, full_answers];
+        let met = [&new[..], &repeats, &others].concat();
         println!("{met:?}");
         assert!(met.iter().all(|times| *times > 100), "{met:?}");
     }

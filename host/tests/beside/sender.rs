@@ -3,14 +3,17 @@
 use crate::common::seen::Seen;
 use crate::common::Ends;
 use crate::{Other, Ours, ROUNDS, SEED};
+use charkhavo_host::plain::Sender;
 use charkhavo_host::random::sender::{discovery_answer, lent, Lent};
-use charkhavo_host::random::Random;
+use charkhavo_host::random::{bytes_of, Random};
+
+const LAST: u32 = 0x8000_0000;
 
 #[test]
 fn sender_calls() {
     let mut random = Random::new(SEED + 1);
     let (mut seen, mut later, mut statuses) = (Seen::default(), Seen::default(), Seen::default());
-    let mut read = 0;
+    let (mut ended, mut read) = (Seen::default(), 0);
     for round in 0..ROUNDS {
         let given = lent(&mut random);
         let Lent { sender, request, answer } = &given;
@@ -25,14 +28,44 @@ fn sender_calls() {
             seen.note(refusal.number);
             later.note(if refusal.at == 0 { 0 } else { refusal.number });
         }
+        if taken.0.number == 0 {
+            ended.note(taken.1 .1.into());
+        }
         let (status, length) = same_outcome(&mut random, request, answer);
         statuses.note(status);
         read += length;
     }
     seen.exactly([0, 30, 31, 32, 33, 34, 35, 36, 37]);
     later.exactly([0, 31, 34, 35]);
+    ended.exactly(0..=4);
     statuses.exactly([0, 1, 2, 3]);
     assert!(read > ROUNDS, "{read} bytes of read data");
+}
+
+/// Every record near the numbers' edges, with every mark, and a message and an answer of each tag.
+#[test]
+fn sender_records() {
+    let nexts = (0..=17).chain([u8::MAX]);
+    let all = nexts.flat_map(|next| [0, 1, 2, 3, 4, 5, 6, u8::MAX].map(|waiting| (next, waiting)));
+    for (next, waiting) in all {
+        for marks in 0..8 {
+            let answered = [1, 2, 4].map(|bit| marks & bit != 0);
+            let sender = Sender { next, waiting, answered };
+            for tag in 0..16 {
+                let (request, answer) = (bytes_of(&[LAST | tag]), bytes_of(&[LAST | 0x30 | tag]));
+                let other = bytes_of(&[LAST | 0x30 | ((tag + 1) % 16)]);
+                let offered = Ours::offer(sender, &request);
+                assert_eq!(offered, Other::offer(sender, &request), "{sender:?}, tag {tag}");
+                let sent = Ours::send(sender, &request);
+                assert_eq!(sent, Other::send(sender, &request), "{sender:?}, tag {tag}");
+                for answer in [answer, other] {
+                    let taken = Ours::take(sender, &request, &answer);
+                    let others = Other::take(sender, &request, &answer);
+                    assert_eq!(taken, others, "{sender:?}, tag {tag}, {answer:?}");
+                }
+            }
+        }
+    }
 }
 
 /// Count, and status and read data of a command or of one that is not there; gives the last two.

@@ -1,7 +1,7 @@
 //! Edges that document 01 and the decided points name, at the controller.
 
 use crate::common::{held, of, words_of, Bench};
-use charkhavo_host::limits::{BYTES, WORDS};
+use charkhavo_host::limits::{BYTES, PLACES, WORDS};
 use charkhavo_host::plain::TagRecord;
 
 #[test]
@@ -69,7 +69,7 @@ fn no_byte_enabled_is_legal_but_its_address_is_judged() {
     assert_eq!(bench.give(&[0x8001_0010, 16, 7]), Ok(vec![0x8000_0030]));
     assert_eq!(bench.memory, Bench::sheet().memory);
     assert_eq!(bench.give(&[0x8001_0011, 32, 7]), Ok(vec![0x8000_0231]));
-    assert_eq!(bench.tags, held(1, 1, 3), "an Error is done");
+    assert_eq!(bench.tags, held(1, &[(1, 3), (1, 3)]), "an Error is done");
 }
 
 #[test]
@@ -80,17 +80,18 @@ fn a_nop_has_no_address_in_either_mode() {
 }
 
 #[test]
-fn advertisements_tell_the_tag_stored_at_entry() {
+fn advertisements_tell_the_newest_tag_at_entry() {
     let limit = BYTES as u32;
     let two = |byte0: u32| [0x0002_0000 | byte0, 0, 0, 0x8002_0000 | byte0, 0, 0];
     let answer =
         |byte0: u32, word| vec![0x0002_0030 | byte0, limit, word, 0x8002_0030 | byte0, limit, word];
     let mut bench = Bench::sheet();
     assert_eq!(bench.give(&two(0x80)), Ok(answer(0x80, 0)));
-    assert_eq!(bench.give(&two(0x05)), Ok(answer(0x05, 0)), "fresh when the call began");
-    assert_eq!(bench.give(&two(0x06)), Ok(answer(0x06, 16 + 5)));
-    assert_eq!(bench.give(&two(0x83)), Ok(answer(0x83, 16 + 6)));
-    assert_eq!(bench.give(&two(0x06)), Ok(answer(0x06, 16 + 5)), "a repeat as it was");
+    assert_eq!(bench.give(&two(0x00)), Ok(answer(0x00, 0)), "fresh when the call began");
+    assert_eq!(bench.give(&two(0x01)), Ok(answer(0x01, 16)));
+    assert_eq!(bench.give(&two(0x02)), Ok(answer(0x02, 16 + 1)));
+    assert_eq!(bench.give(&two(0x83)), Ok(answer(0x83, 16 + 2)));
+    assert_eq!(bench.give(&two(0x01)), Ok(answer(0x01, 16)), "a repeat as it was");
 }
 
 #[test]
@@ -98,32 +99,38 @@ fn reads_of_several_commands_stop_at_the_first_error() {
     let mut bench = Bench::sheet();
     let sent = bench.give(&[0x0002_0020, 16, 0x0001_0020, 33, 0x8001_0020, 16]);
     assert_eq!(sent, Ok(vec![0x0002_0030, 0xF00D_FACE, 0, 0x8000_0230]));
-    assert_eq!(bench.tags, held(0, 4, 6));
+    assert_eq!(bench.tags, held(0, &[(4, 6)]));
 }
 
 #[test]
 fn a_read_sees_earlier_messages_and_its_repeat_does_not_see_later_ones() {
     let mut bench = Bench::sheet();
-    bench.give(&[0x8001_0F13, 0, 5]).unwrap();
-    let sent = bench.give(&[0x8001_0024, 0]);
-    assert_eq!(sent, Ok(vec![0x8001_0034, 5]));
+    bench.give(&[0x8001_0F10, 0, 5]).unwrap();
+    let sent = bench.give(&[0x8001_0021, 0]);
+    assert_eq!(sent, Ok(vec![0x8001_0031, 5]));
     bench.give(&[0x8001_0F90, 0, 6]).unwrap();
-    assert_eq!(bench.give(&[0x8001_0024, 0]), sent);
-    assert_eq!(bench.give(&[0x8001_0F14, 0, 9]), Err(of(12)), "a repeat has the same bytes");
-    assert_eq!(bench.give(&[0x8001_0024, 0]), sent);
-    assert_eq!(bench.memory[0], 6);
+    assert_eq!(bench.give(&[0x8001_0021, 0]), sent);
+    assert_eq!(bench.give(&[0x8001_0F11, 0, 9]), Err(of(12)), "a repeat has the same bytes");
+    bench.give(&[0x8001_0F12, 0, 7]).unwrap();
+    assert_eq!(bench.give(&[0x8001_0021, 0]), sent);
+    assert_eq!(bench.memory[0], 7);
 }
 
 #[test]
-fn a_fresh_record_takes_any_tag_and_a_discovery_keeps_its_fields() {
+fn a_fresh_record_takes_only_tag_0_and_a_discovery_keeps_its_fields() {
+    let any = [u32::MAX; PLACES];
+    let tags = TagRecord { held: 0, tag: 77, words: any, request: any };
+    let mut bench = Bench { tags, ..Bench::sheet() };
     for tag in 0..16 {
-        let tags = TagRecord { fresh: true, tag: 77, words: usize::MAX, request: usize::MAX };
-        let mut bench = Bench { tags, ..Bench::sheet() };
         bench.give(&[0x8001_00A0 | tag, 0]).unwrap();
         assert_eq!(bench.tags, tags);
-        bench.give(&[0x8001_0020 | tag, 0]).unwrap();
-        assert_eq!(bench.tags, held(tag, 2, 2));
     }
+    for tag in 1..16 {
+        assert_eq!(bench.give(&[0x8001_0020 | tag, 0]), Err(of(11)), "tag {tag}");
+    }
+    bench.give(&[0x8001_0020, 0]).unwrap();
+    let lengths = [2, u32::MAX, u32::MAX, u32::MAX];
+    assert_eq!(bench.tags, TagRecord { held: 1, tag: 0, words: lengths, request: lengths });
 }
 
 #[test]
@@ -134,12 +141,13 @@ fn messages_and_answers_as_long_as_can_be() {
     write.extend((0..WORDS as u32 - 2).map(|word| word ^ 0x8888_8888));
     assert_eq!(bench.give(&write), Ok(vec![0x8000_0030]));
     assert_eq!(bench.memory[1..WORDS - 1], write[2..]);
-    assert_eq!(bench.tags, held(0, 1, WORDS));
+    assert_eq!(bench.tags, held(0, &[(1, WORDS as u32)]));
     assert_eq!(bench.give(&write), Ok(vec![0x8000_0030]), "compared whole");
     let read = [0x8000_0021 | (WORDS as u32 - 1) << 16, 4];
     let sent = bench.give(&read).unwrap();
     assert_eq!(sent.len(), WORDS);
     assert_eq!(sent[1..], bench.memory[1..]);
-    assert_eq!(bench.tags, held(1, WORDS, 2));
+    assert_eq!(bench.tags, held(1, &[(WORDS as u32, 2), (1, WORDS as u32)]));
     assert_eq!(bench.give(&read), Ok(sent), "repeated whole");
+    assert_eq!(bench.give(&write), Ok(vec![0x8000_0030]), "and so is the one before");
 }

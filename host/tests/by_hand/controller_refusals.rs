@@ -1,7 +1,7 @@
 //! Each refusal of the controller by hand-made datagrams, and the order they come in.
 
 use crate::common::{at, bytes_of, held, of, Bench};
-use charkhavo_host::limits::{BYTES, WORDS};
+use charkhavo_host::limits::{BYTES, KEPT, PLACES, STORED, WORDS};
 use charkhavo_host::plain::TagRecord;
 use charkhavo_host::Refusal;
 
@@ -20,29 +20,40 @@ fn refusal_1_buffers() {
         bench.output.resize(output, 0);
         bench.give(&READ).err()
     };
-    assert_eq!(lent(1, WORDS, BYTES, BYTES), None);
-    assert_eq!(lent(16_384, WORDS, BYTES, BYTES), None);
-    assert_eq!(lent(0, WORDS, BYTES, BYTES), Some(of(1)));
-    assert_eq!(lent(16_385, WORDS, BYTES, BYTES), Some(of(1)));
-    assert_eq!(lent(1, WORDS - 1, BYTES, BYTES), Some(of(1)));
-    assert_eq!(lent(1, WORDS, BYTES - 1, BYTES), Some(of(1)));
-    assert_eq!(lent(1, WORDS, 0, BYTES), Some(of(1)));
-    assert_eq!(lent(1, WORDS, BYTES, BYTES - 1), Some(of(1)));
+    assert_eq!(lent(1, STORED, KEPT, BYTES), None);
+    assert_eq!(lent(16_384, STORED, KEPT, BYTES), None);
+    assert_eq!(lent(0, STORED, KEPT, BYTES), Some(of(1)));
+    assert_eq!(lent(16_385, STORED, KEPT, BYTES), Some(of(1)));
+    assert_eq!(lent(1, STORED - 1, KEPT, BYTES), Some(of(1)));
+    assert_eq!(lent(1, WORDS, KEPT, BYTES), Some(of(1)), "one answer's room");
+    assert_eq!(lent(1, STORED, KEPT - 1, BYTES), Some(of(1)));
+    assert_eq!(lent(1, STORED, BYTES, BYTES), Some(of(1)), "one request's room");
+    assert_eq!(lent(1, STORED, 0, BYTES), Some(of(1)));
+    assert_eq!(lent(1, STORED, KEPT, BYTES - 1), Some(of(1)));
     assert_eq!(lent(1, 0, 0, 0), Some(of(1)));
+    assert_eq!((STORED, KEPT), (4 * 2_243, 4 * 8_972));
 }
 
 #[test]
 fn refusal_1_record() {
     let with = |tags| Bench { tags, ..Bench::sheet() }.give(&[0x8001_00A0, 0]).err();
-    assert_eq!(with(held(15, 1, 1)), None);
-    assert_eq!(with(held(0, WORDS, WORDS)), None);
-    assert_eq!(with(held(16, 1, 1)), Some(of(1)));
-    assert_eq!(with(held(u32::MAX, 1, 1)), Some(of(1)));
-    for length in [0, WORDS + 1, usize::MAX / 4 + 2, usize::MAX] {
-        assert_eq!(with(held(0, length, 1)), Some(of(1)), "an answer of {length}");
-        assert_eq!(with(held(0, 1, length)), Some(of(1)), "a request of {length}");
-        let fresh = TagRecord { fresh: true, tag: u32::MAX, words: length, request: length };
+    let most = WORDS as u32;
+    for many in 1..=PLACES {
+        assert_eq!(with(held(15, &[(1, 1)].repeat(many))), None);
+        assert_eq!(with(held(0, &[(most, most)].repeat(many))), None);
+        assert_eq!(with(held(16, &[(1, 1)].repeat(many))), Some(of(1)));
+        assert_eq!(with(held(u32::MAX, &[(1, 1)].repeat(many))), Some(of(1)));
+    }
+    for length in [0, most + 1, u32::MAX / 4 + 2, u32::MAX] {
+        assert_eq!(with(held(0, &[(length, 1)])), Some(of(1)), "an answer of {length}");
+        assert_eq!(with(held(0, &[(1, length)])), Some(of(1)), "a request of {length}");
+        let lengths = [length; PLACES];
+        let fresh = TagRecord { held: 0, tag: u32::MAX, words: lengths, request: lengths };
         assert_eq!(with(fresh), None, "a fresh record is not looked into");
+    }
+    for many in [5, 6, 16, u32::MAX] {
+        let tags = TagRecord { held: many, ..held(3, &[(1, 1)].repeat(PLACES)) };
+        assert_eq!(with(tags), Some(of(1)), "{many} held");
     }
 }
 
@@ -160,18 +171,23 @@ fn refusal_10_long_answer() {
     assert_eq!(refused(&[0x0FFF_0020, 0, 0x9001_0020, 0]), Some(at(6, 2)), "the walk comes first");
 }
 
+/// So many held back from each tag, and each tag that comes: as it is kept, with other bytes, and as
+/// a discovery.
 #[test]
 fn refusal_11_out_of_step() {
-    for stored in 0..16 {
+    let all = (0..=4).flat_map(|many| (0..16).map(move |newest| (many, newest)));
+    for (many, newest) in all {
+        let bench = Bench::with_tags(newest, many);
+        let next = if many == 0 { 0 } else { (newest + 1) % 16 };
         for tag in 0..16 {
-            let given = Bench::with_tag(stored).give(&[0x8000_0000 | tag]).err();
-            let allowed = tag == stored || tag == (stored + 1) % 16;
-            assert_eq!(given, (!allowed).then_some(of(11)), "stored {stored}, tag {tag}");
-            let other = Bench::with_tag(stored).give(&[0x8001_0020 | tag, 0]).err();
-            let expected = if tag == stored { Some(of(12)) } else { given };
-            assert_eq!(other, expected, "other bytes, stored {stored}, tag {tag}");
-            let discovery = Bench::with_tag(stored).give(&[0x8001_00A0 | tag, 0]).err();
-            assert_eq!(discovery, None);
+            let repeat = (0..many).any(|back| (tag + back) % 16 == newest);
+            let what = format!("{many} held back from {newest}, tag {tag}");
+            let given = bench.clone().give(&[0x8000_0000 | tag]).err();
+            assert_eq!(given, (tag != next && !repeat).then_some(of(11)), "{what}");
+            let other = bench.clone().give(&[0x8001_0020 | tag, 0]).err();
+            assert_eq!(other, if repeat { Some(of(12)) } else { given }, "{what}, other bytes");
+            let discovery = bench.clone().give(&[0x8001_00A0 | tag, 0]).err();
+            assert_eq!(discovery, None, "{what}, a discovery");
         }
     }
 }
@@ -230,7 +246,8 @@ fn refusal_12_looks_at_what_was_new() {
     assert_eq!(bench.give(&past_the_end), Ok(vec![0x8000_0231]));
     assert_eq!(bench.give(&past_the_end), Ok(vec![0x8000_0231]), "one that ends in Error is");
     assert_eq!(bench.give(&[0x8001_0F11, 0x0000_0020, 8]), Err(of(12)));
-    assert_eq!(bench.give(&A), Err(of(11)), "the one before is forgotten");
+    assert_eq!(bench.give(&A), Ok(vec![0x8000_0030]), "and so is the one before it");
+    assert_eq!(bench.give(&[A[0], A[1], 0]), Err(of(12)), "each by its own bytes");
 }
 
 #[test]
@@ -245,7 +262,7 @@ fn refusal_12_comes_last() {
     for tag in 2..16 {
         assert_eq!(bench.give(&[0x8001_0F10 | tag, 4, 0]), Err(of(11)), "tag {tag}");
     }
-    bench.tags.request = 0;
+    bench.tags.request[0] = 0;
     assert_eq!(bench.give(&[0x8001_0F10, 4, 0]), Err(of(1)));
 }
 
@@ -255,11 +272,11 @@ fn refusal_12_by_the_length_of_the_record() {
     let longer = [&A[..], &[7]].concat();
     for (request, expected) in [(1, Err(of(12))), (2, Err(of(12))), (4, Err(of(12))), (3, Ok(()))] {
         let mut bench = Bench::sheet().holding(&longer);
-        bench.tags.request = request;
+        bench.tags.request[0] = request;
         assert_eq!(bench.give(&A).map(|_| ()), expected, "{request} words");
     }
     let mut bench = Bench::sheet().holding(&longer);
-    bench.tags.request = WORDS;
+    bench.tags.request[0] = WORDS as u32;
     assert_eq!(bench.give(&A), Err(of(12)));
 }
 

@@ -1,7 +1,9 @@
-//! Document 01 by hand: the bench sheet, every refusal, the edges.
+//! Document 01 and the requests that have landed by hand: the bench sheet, every refusal, the edges.
 
 mod bench_sheet;
 mod builder;
 mod controller_edges;
 mod controller_refusals;
+mod four_held;
+mod four_waiting;
 mod sender;

@@ -1,4 +1,4 @@
-//! The sender's refusals 30 to 38 by hand, their order, and outcomes.
+//! The sender's refusals 30 to 38 by hand, their order, and outcomes, with one message waiting.
 
 use crate::common::ends::ABSENT;
 use crate::common::{at, bytes_of, of, Bench, Ends};
@@ -13,14 +13,14 @@ const READS: [u32; 4] = [0x0002_0025, 0, 0x8001_0025, 8];
 const ANSWER: [u32; 5] = [0x0002_0035, 11, 12, 0x8001_0035, 13];
 
 fn waiting() -> Sender {
-    Sender { next: 5, waits: true }
+    Sender { waiting: 1, ..Sender::idle(5) }
 }
 
 /// What taking this answer to READS gives; a refusal must leave the sender as it was.
 fn taken(answer: &[u32]) -> Refusal {
-    let (refusal, sender) = Ours::take(waiting(), &bytes_of(&READS), &bytes_of(answer));
-    let after = Sender { next: 6, waits: false };
-    assert_eq!(sender, if refusal == of(0) { after } else { waiting() });
+    let (refusal, after) = Ours::take(waiting(), &bytes_of(&READS), &bytes_of(answer));
+    let ended = (Sender::idle(6), 1);
+    assert_eq!(after, if refusal == of(0) { ended } else { (waiting(), 0) });
     refusal
 }
 
@@ -28,39 +28,39 @@ fn taken(answer: &[u32]) -> Refusal {
 fn a_message_from_offer_to_answer() {
     let request = bytes_of(&[0x8001_0F10, 4, 7]);
     let sender = Ours::fresh();
-    assert_eq!(sender, Sender { next: 0, waits: false });
-    let offered = Sender { next: 0, waits: true };
+    assert_eq!(sender, Sender { next: 0, waiting: 0, answered: [false; 3] });
+    let offered = Sender { waiting: 1, ..sender };
     assert_eq!(Ours::offer(sender, &request), (of(0), offered));
     for _ in 0..3 {
         assert_eq!(Ours::send(offered, &request), (of(0), request.len()));
     }
     let taken = Ours::take(offered, &request, &bytes_of(&[0x8000_0030]));
-    assert_eq!(taken, (of(0), Sender { next: 1, waits: false }));
+    assert_eq!(taken, (of(0), (Sender::idle(1), 1)));
 }
 
 #[test]
 fn a_failed_command_ends_the_message_and_15_is_followed_by_0() {
     for status in [1, 2] {
-        let sender = Sender { next: 15, waits: true };
+        let sender = Sender { waiting: 1, ..Sender::idle(15) };
         let answer = bytes_of(&[0x8000_003F | status << 8]);
         let taken = Ours::take(sender, &bytes_of(&[0x0001_002F, 0, 0x8001_002F, 0]), &answer);
-        assert_eq!(taken, (of(0), Ours::fresh()));
+        assert_eq!(taken, (of(0), (Ours::fresh(), 1)));
     }
 }
 
 #[test]
 fn refusals_37_36_30_come_before_all_others() {
-    for next in [16, u32::MAX] {
-        for waits in [false, true] {
-            let sender = Sender { next, waits };
-            assert_eq!(Ours::offer(sender, &[]), (of(37), sender));
-            assert_eq!(Ours::send(sender, &[]), (of(37), 0));
-            assert_eq!(Ours::take(sender, &[], &[]), (of(37), sender));
-        }
+    let wrong = [(16, 0), (16, 1), (16, 4), (16, 5), (u8::MAX, 0), (0, 5), (15, 5), (5, u8::MAX)];
+    for (next, waiting) in wrong {
+        let sender = Sender { waiting, ..Sender::idle(next) };
+        assert_eq!(Ours::offer(sender, &[]), (of(37), sender));
+        assert_eq!(Ours::send(sender, &[]), (of(37), 0));
+        assert_eq!(Ours::take(sender, &[], &[]), (of(37), (sender, 0)));
     }
-    assert_eq!(Ours::offer(waiting(), &[]), (of(36), waiting()));
+    let four = Sender { waiting: 4, ..Sender::idle(5) };
+    assert_eq!(Ours::offer(four, &[]), (of(36), four));
     assert_eq!(Ours::send(Ours::fresh(), &[]), (of(30), 0));
-    assert_eq!(Ours::take(Ours::fresh(), &[], &[]), (of(30), Ours::fresh()));
+    assert_eq!(Ours::take(Ours::fresh(), &[], &[]), (of(30), (Ours::fresh(), 0)));
 }
 
 #[test]
@@ -74,10 +74,10 @@ fn refusal_31() {
         &[0x8FFF_0025, 0],
     ];
     for request in bad.map(bytes_of) {
-        let open = Sender { next: 5, waits: false };
+        let open = Sender::idle(5);
         assert_eq!(Ours::offer(open, &request), (of(31), open));
         assert_eq!(Ours::send(waiting(), &request), (of(31), 0));
-        assert_eq!(Ours::take(waiting(), &request, &[]), (of(31), waiting()), "31 before 32");
+        assert_eq!(Ours::take(waiting(), &request, &[]), (of(31), (waiting(), 0)), "31 before 32");
     }
 }
 
@@ -89,10 +89,10 @@ fn refusal_31_at_a_later_header() {
         for fault in faults {
             let words = [[0x0001_0025, 0].repeat(before).as_slice(), fault].concat();
             let (request, refusal) = (bytes_of(&words), at(31, 2 * before));
-            let open = Sender { next: 5, waits: false };
+            let open = Sender::idle(5);
             assert_eq!(Ours::offer(open, &request), (refusal, open));
             assert_eq!(Ours::send(waiting(), &request), (refusal, 0));
-            assert_eq!(Ours::take(waiting(), &request, &[]), (refusal, waiting()));
+            assert_eq!(Ours::take(waiting(), &request, &[]), (refusal, (waiting(), 0)));
         }
     }
 }
@@ -102,7 +102,7 @@ fn refusal_32() {
     assert_eq!(taken(&ANSWER), of(0));
     for length in [0, 1, 3, 21, BYTES + 4] {
         let taken = Ours::take(waiting(), &bytes_of(&READS), &vec![0xFF; length]);
-        assert_eq!(taken, (of(32), waiting()), "{length} bytes");
+        assert_eq!(taken, (of(32), (waiting(), 0)), "{length} bytes");
     }
 }
 
@@ -151,7 +151,7 @@ fn refusal_35() {
 #[test]
 fn counts_by_kind() {
     let take = |request: &[u32], answer: &[u32]| {
-        let sender = Sender { next: 0, waits: true };
+        let sender = Sender { waiting: 1, ..Sender::fresh() };
         Ours::take(sender, &bytes_of(request), &bytes_of(answer)).0
     };
     assert_eq!(take(&[0x8001_0F10, 0, 0], &[0x8001_0030, 0]), of(34), "a write's is 0");
@@ -164,8 +164,8 @@ fn counts_by_kind() {
 #[test]
 fn a_sender_from_a_discovery_answer() {
     let from = |words: &[u32]| Ours::discovered(&bytes_of(words));
-    let sender = |next| (of(0), Sender { next, waits: false });
-    let refused = |number| (of(number), Sender { next: 16, waits: false });
+    let sender = |next| (of(0), Sender::idle(next));
+    let refused = |number| (of(number), Sender::idle(16));
     let limit = BYTES as u32;
     assert_eq!(from(&[0x8002_00B0, limit, 0]), sender(0));
     assert_eq!(from(&[0x8002_00B0, limit, 16]), sender(1));
@@ -195,8 +195,10 @@ fn the_fixed_discovery_and_its_answers() {
     assert_eq!(Ours::discovered(&bytes_of(&answer)), (of(0), Ours::fresh()));
     for tag in 0..16 {
         let answer = Bench::with_tag(tag).give_bytes(&discovery).unwrap();
-        let sender = Sender { next: (tag + 1) % 16, waits: false };
+        let sender = Sender::idle((tag as u8 + 1) % 16);
         assert_eq!(Ours::discovered(&bytes_of(&answer)), (of(0), sender));
+        let answer = Bench::with_tags(tag, 4).give_bytes(&discovery).unwrap();
+        assert_eq!(Ours::discovered(&bytes_of(&answer)), (of(0), sender), "the newest");
     }
 }
 

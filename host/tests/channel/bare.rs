@@ -1,8 +1,8 @@
 //! Two ends made of the calls of any ends and of buffers that stand beside them.
 
 use super::pair::{check_added, Told, TwoEnds};
-use crate::common::{Ends, Given};
-use charkhavo_host::limits::{BYTES, WORDS};
+use crate::common::{place_of, Ends, Given};
+use charkhavo_host::limits::{BYTES, KEPT, PLACES, STORED};
 use charkhavo_host::plain::{Addition, Building, Sender, TagRecord};
 use std::marker::PhantomData;
 
@@ -12,7 +12,9 @@ pub struct Bare<E> {
     output: Vec<u8>,
     tags: TagRecord,
     sender: Sender,
-    message: Vec<u8>,
+    /// Each at the place of its tag.
+    messages: [Vec<u8>; PLACES],
+    answers: [Vec<u8>; PLACES],
     ends: PhantomData<E>,
 }
 
@@ -23,21 +25,39 @@ fn result<T>((refusal, given): Given<T>) -> Result<T, u32> {
     }
 }
 
+impl<E: Ends> Bare<E> {
+    /// The tag of the message that is so many behind the oldest.
+    fn tag_behind(&self, k: usize) -> u32 {
+        (u32::from(self.sender.next) + k as u32) % 16
+    }
+
+    /// What the answer at a place tells of the message there.
+    fn told(&self, place: usize) -> Told {
+        let (message, answer) = (&self.messages[place], &self.answers[place]);
+        let told = |k| {
+            let (start, length) = E::read_data(message, answer, k);
+            (E::status(message, answer, k), answer[start..start + length].to_vec())
+        };
+        (0..E::count(message, answer)).map(told).collect()
+    }
+}
+
 impl<E: Ends> TwoEnds for Bare<E> {
     fn fresh() -> Bare<E> {
         Bare {
-            stored: vec![0x3333_3333; WORDS],
-            kept: vec![0x66; BYTES],
+            stored: vec![0x3333_3333; STORED],
+            kept: vec![0x66; KEPT],
             output: vec![0x44; BYTES],
             tags: TagRecord::fresh(),
             sender: E::fresh(),
-            message: Vec::new(),
+            messages: Default::default(),
+            answers: Default::default(),
             ends: PhantomData,
         }
     }
 
     fn tag(&self) -> Option<u32> {
-        (!self.tags.fresh).then_some(self.tags.tag)
+        (self.tags.held != 0).then_some(self.tags.tag)
     }
 
     fn serve(&mut self, memory: &mut [u32], datagram: &[u8]) -> Result<Vec<u8>, u32> {
@@ -54,17 +74,22 @@ impl<E: Ends> TwoEnds for Bare<E> {
         self.sender = result(E::discovered(answer)).expect("a sender");
     }
 
-    fn next_tag(&self) -> u32 {
-        self.sender.next
+    fn new_tag(&self) -> u32 {
+        self.tag_behind(self.waiting())
     }
 
-    fn waits(&self) -> bool {
-        self.sender.waits
+    fn waiting(&self) -> usize {
+        self.sender.waiting.into()
+    }
+
+    fn unanswered(&self) -> Vec<u32> {
+        let open = |k: &usize| *k == 0 || !self.sender.answered[*k - 1];
+        (0..self.waiting()).filter(open).map(|k| self.tag_behind(k)).collect()
     }
 
     fn build(&self, kind: u32, wide: bool, commands: &[Addition]) -> Vec<u8> {
         let mut output = vec![0x55; BYTES];
-        let (tag, empty) = (self.sender.next, Building::EMPTY);
+        let (tag, empty) = (self.new_tag(), Building::EMPTY);
         let begun = result(E::begin(&output, empty, kind, tag, wide, false));
         let mut building = begun.expect("begun");
         for command in commands {
@@ -78,22 +103,28 @@ impl<E: Ends> TwoEnds for Bare<E> {
     }
 
     fn offer(&mut self, message: &[u8]) -> Result<(), u32> {
+        let place = place_of(self.new_tag());
         self.sender = result(E::offer(self.sender, message))?;
-        self.message = message.to_vec();
+        self.messages[place] = message.to_vec();
         Ok(())
     }
 
-    fn send(&self) -> Result<Vec<u8>, u32> {
-        let length = result(E::send(self.sender, &self.message))?;
-        Ok(self.message[..length].to_vec())
+    fn send(&self, tag: u32) -> Result<Vec<u8>, u32> {
+        let asked = self.unanswered().contains(&tag);
+        let message = if asked { &self.messages[place_of(tag)][..] } else { &[] };
+        let length = result(E::send(self.sender, message))?;
+        Ok(message[..length].to_vec())
     }
 
-    fn take(&mut self, answer: &[u8]) -> Result<Told, u32> {
-        self.sender = result(E::take(self.sender, &self.message, answer))?;
-        let told = |k| {
-            let (start, length) = E::read_data(&self.message, answer, k);
-            (E::status(&self.message, answer, k), answer[start..start + length].to_vec())
-        };
-        Ok((0..E::count(&self.message, answer)).map(told).collect())
+    fn take(&mut self, answer: &[u8]) -> Result<Vec<Told>, u32> {
+        let oldest = self.tag_behind(0);
+        let asked = self.unanswered().into_iter().find(|tag| *tag == u32::from(answer[0] & 15));
+        let place = place_of(asked.unwrap_or(oldest));
+        let (after, ended) = result(E::take(self.sender, &self.messages[place], answer))?;
+        self.answers[place] = answer.to_vec();
+        let ended = 0..u32::from(ended);
+        let told = ended.map(|k| self.told(place_of(oldest + k))).collect();
+        self.sender = after;
+        Ok(told)
     }
 }

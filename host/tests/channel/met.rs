@@ -7,8 +7,16 @@ pub struct Met {
     refusals: Seen,
     /// 10 times the kind plus the status.
     commands: Seen,
-    oldest_request: usize,
-    oldest_answer: usize,
+    /// How far behind the last accepted one requests arrived.
+    behind: Seen,
+    /// How far ahead of it.
+    ahead: Seen,
+    /// How far behind the newest message answers came back.
+    answers: Seen,
+    /// How many messages ended with an answer that was taken.
+    ended: Seen,
+    /// How many messages more were carried out than were finished.
+    unfinished: Seen,
 }
 
 impl Met {
@@ -20,29 +28,49 @@ impl Met {
         self.commands.note(10 * kind + status);
     }
 
-    /// A request arrived so much behind the last accepted one.
-    pub fn request(&mut self, behind: usize) {
-        self.oldest_request = self.oldest_request.max(behind);
+    /// A request arrived when so many were accepted.
+    pub fn request(&mut self, number: usize, accepted: usize) {
+        match accepted.checked_sub(number + 1) {
+            Some(behind) => self.behind.note(behind as u32),
+            None => self.ahead.note((number + 1 - accepted) as u32),
+        }
     }
 
-    /// An answer came back so much behind the one awaited.
+    /// An answer came back so much behind the newest message.
     pub fn answer(&mut self, behind: usize) {
-        self.oldest_answer = self.oldest_answer.max(behind);
+        self.answers.note(behind as u32);
+    }
+
+    pub fn ended(&mut self, many: usize) {
+        self.ended.note(many as u32);
+    }
+
+    pub fn unfinished(&mut self, many: usize) {
+        self.unfinished.note(many as u32);
     }
 
     pub fn add(&mut self, other: Met) {
         self.refusals.add(other.refusals);
         self.commands.add(other.commands);
-        self.request(other.oldest_request);
-        self.answer(other.oldest_answer);
+        self.behind.add(other.behind);
+        self.ahead.add(other.ahead);
+        self.answers.add(other.answers);
+        self.ended.add(other.ended);
+        self.unfinished.add(other.unfinished);
     }
 
-    /// Requests too old and cut short, answers of another tag and to discoveries, calls out of
-    /// turn, and never 12; NOPs, writes and reads, the last two with Error too; the oldest copies
-    /// allowed.
+    /// Requests too old, early and cut short, answers of another tag and to discoveries, calls out of
+    /// turn, and never 12; NOPs, writes and reads, the last two with Error too; every age that is
+    /// allowed; early requests and early answers; one to four ended at once; all four carried out
+    /// and none finished.
     pub fn all(&self, too_old: usize) {
-        self.refusals.exactly([2, 3, 11, 30, 33, 36]);
+        let too_old = too_old as u32;
+        self.refusals.exactly([2, 3, 11, 30, 31, 33, 36]);
         self.commands.exactly([0, 10, 12, 20, 22]);
-        assert_eq!((self.oldest_request, self.oldest_answer), (too_old - 1, too_old));
+        self.behind.exactly(0..too_old);
+        self.ahead.exactly(1..=4);
+        self.answers.exactly(0..=too_old);
+        self.ended.exactly(0..=4);
+        self.unfinished.exactly(0..=4);
     }
 }

@@ -8,20 +8,26 @@ pub type Told = Vec<(u32, Vec<u8>)>;
 pub trait TwoEnds {
     fn fresh() -> Self;
 
-    /// The controller's stored tag.
+    /// The controller's newest tag.
     fn tag(&self) -> Option<u32>;
     fn serve(&mut self, memory: &mut [u32], datagram: &[u8]) -> Result<Vec<u8>, u32>;
 
     fn discovery() -> [u8; 12];
     /// A new sender, from an answer to the discovery.
     fn restart(&mut self, answer: &[u8]);
-    fn next_tag(&self) -> u32;
-    fn waits(&self) -> bool;
-    /// A message of the next tag; commands that have no room are left out.
+    /// The tag of the message to offer.
+    fn new_tag(&self) -> u32;
+    /// How many wait.
+    fn waiting(&self) -> usize;
+    /// The tags of those that wait and are not answered, the oldest first.
+    fn unanswered(&self) -> Vec<u32>;
+    /// A message of the new tag; commands that have no room are left out.
     fn build(&self, kind: u32, wide: bool, commands: &[Addition]) -> Vec<u8>;
     fn offer(&mut self, message: &[u8]) -> Result<(), u32>;
-    fn send(&self) -> Result<Vec<u8>, u32>;
-    fn take(&mut self, answer: &[u8]) -> Result<Told, u32>;
+    fn send(&self, tag: u32) -> Result<Vec<u8>, u32>;
+    /// Takes an answer; it is held against the unanswered message whose tag it has, else against the
+    /// oldest. Gives what is told of each message that ended, in order of tag.
+    fn take(&mut self, answer: &[u8]) -> Result<Vec<Told>, u32>;
 }
 
 /// Adding is refused only where there is no room.

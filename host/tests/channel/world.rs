@@ -1,25 +1,42 @@
 //! Both ends and the channel between them, event by event, with the model of what must come.
 
+mod noise;
+
 use super::met::Met;
 use super::pair::{Told, TwoEnds};
-use crate::common::naive;
+use crate::common::{naive, naive_sender};
 use crate::Pair;
-use charkhavo_host::limits::WORDS;
+use charkhavo_host::limits::PLACES;
 use charkhavo_host::plain::message::Kind;
 use charkhavo_host::plain::{Addition, TagRecord};
 use charkhavo_host::random::requests::{address, enables, request, Wish};
 use charkhavo_host::random::{bytes_of, Random};
 
+/// A message of the list.
+struct Message {
+    bytes: Vec<u8>,
+    /// The model's, once the message was accepted.
+    answer: Vec<u8>,
+    /// Whether the sender has taken an answer to it.
+    answered: bool,
+}
+
+impl Message {
+    fn tag(&self) -> u32 {
+        u32::from(self.bytes[0] & 15)
+    }
+}
+
 /// A datagram under way. `number` says which message of the list it is or answers; none for
 /// discoveries and their answers.
 #[derive(Clone)]
-struct Datagram {
+pub struct Datagram {
     number: Option<usize>,
     bytes: Vec<u8>,
 }
 
-/// No request arrives this much behind the last accepted one, and no answer one more than
-/// this behind the one awaited.
+/// No request arrives this much behind the last accepted one, and no answer one more than this
+/// behind any message that waits, so behind the newest.
 pub const TOO_OLD: usize = 15;
 /// Copies under way that the channel remembers; beyond, it loses one.
 const REMEMBERED: usize = 48;
@@ -29,22 +46,21 @@ pub struct World {
     pub random: Random,
     memory: Vec<u32>,
     pub pair: Pair,
-    message: Vec<u8>,
     // The channel.
     requests: Vec<Datagram>,
     answers: Vec<Datagram>,
-    // The model: memory after the first `taken` messages, and the current one's answer.
+    // The model: all messages offered, and memory after the first `taken` of them.
+    messages: Vec<Message>,
     model: Vec<u32>,
-    expected: Vec<u8>,
-    offered: usize,
     pub taken: usize,
     pub finished: usize,
+    /// How often the oldest unfinished message was sent.
     pub sends: usize,
     pub met: Met,
 }
 
 impl World {
-    /// A fresh pair, or a controller that some message came to before and a sender made from its
+    /// A fresh pair, or a controller that some messages came to before and a sender made from its
     /// discovery answer.
     pub fn new(seed: u64) -> World {
         let mut random = Random::new(seed);
@@ -54,25 +70,26 @@ impl World {
             model: Vec::new(),
             memory,
             pair: Pair::fresh(),
-            message: Vec::new(),
             requests: Vec::new(),
             answers: Vec::new(),
-            expected: Vec::new(),
+            messages: Vec::new(),
             random,
-            offered: 0,
             taken: 0,
             finished: 0,
             sends: 0,
             met: Met::default(),
         };
-        if world.random.one_in(2) {
-            let tag = world.random.word() % 16;
-            let wish = Wish { kind: Kind::Read, tag, wide: false, discovery: false, memory: WORDS };
-            let before = request(&mut world.random, wish);
-            world.pair.serve(&mut world.memory, &before).expect("an answer");
-            world.restart();
-            assert_eq!(world.pair.next_tag(), (tag + 1) % 16);
+        let before = world.random.pick(&[0, 0, 1, 2, 3, 4, 5, 14, 15, 16, 17, 30]);
+        for number in 0..before {
+            let (tag, memory) = (number % 16, world.memory.len());
+            let wish = Wish { kind: Kind::Read, tag, wide: false, discovery: false, memory };
+            let message = request(&mut world.random, wish);
+            world.pair.serve(&mut world.memory, &message).expect("an answer");
         }
+        if before > 0 {
+            world.restart();
+        }
+        assert_eq!(world.pair.new_tag(), before % 16);
         world.model.clone_from(&world.memory);
         world
     }
@@ -83,16 +100,18 @@ impl World {
         self.pair.restart(&answer);
     }
 
-    /// Builds a message and offers it; the model foretells its answer.
+    pub fn offered(&self) -> usize {
+        self.messages.len()
+    }
+
+    /// Builds a message and offers it.
     pub fn offer(&mut self) {
-        self.message = self.build();
-        assert_eq!(self.pair.offer(&self.message), Ok(()));
-        let mut after = self.model.clone();
-        let request = naive::read(&self.message).expect("well-formed");
-        let answer = naive::carried(&request, &mut after, &tags_of(self.pair.tag()));
-        self.expected = bytes_of(&answer);
-        self.offered += 1;
-        self.answers.retain(|copy| copy.number.is_none_or(|n| self.offered <= n + TOO_OLD + 1));
+        let bytes = self.build();
+        assert_eq!(self.pair.offer(&bytes), Ok(()));
+        self.messages.push(Message { bytes, answer: Vec::new(), answered: false });
+        let offered = self.offered();
+        self.answers.retain(|copy| copy.number.is_none_or(|n| offered <= n + TOO_OLD + 1));
+        self.check_sender();
     }
 
     /// A message of any kind and mode, its commands in or out of memory as it happens.
@@ -119,34 +138,54 @@ impl World {
         self.pair.build(kind, wide, &added)
     }
 
-    /// The waiting message's bytes go under way.
-    pub fn send(&mut self) {
-        let bytes = self.pair.send().expect("sent");
-        assert!(bytes == self.message);
-        self.sends += 1;
+    /// The numbers of the messages that wait and are not answered, the oldest first.
+    pub fn unanswered(&self) -> Vec<usize> {
+        (self.finished..self.offered()).filter(|n| !self.messages[*n].answered).collect()
+    }
+
+    /// The sender says of what waits as the model does.
+    fn check_sender(&self) {
+        let tags: Vec<u32> =
+            self.unanswered().into_iter().map(|n| self.messages[n].tag()).collect();
+        assert_eq!(self.pair.waiting(), self.offered() - self.finished);
+        assert_eq!(self.pair.unanswered(), tags);
+    }
+
+    /// A message's bytes go under way.
+    pub fn send(&mut self, number: usize) {
+        let message = &self.messages[number];
+        let bytes = self.pair.send(message.tag()).expect("sent");
+        assert!(bytes == message.bytes);
+        self.sends += usize::from(number == self.finished);
         if self.requests.len() == REMEMBERED {
             let lost = self.random.below(REMEMBERED);
             self.requests.swap_remove(lost);
         }
-        self.requests.push(Datagram { number: Some(self.offered - 1), bytes });
+        self.requests.push(Datagram { number: Some(number), bytes });
     }
 
-    /// One of the requests under way arrives; it may stay, to arrive again.
+    /// One of the requests under way arrives; it may stay, to arrive again. The next is carried out,
+    /// the last four are answered as they were, and all others are out of step.
     fn arrive(&mut self, which: usize) {
         let copy = self.requests[which].clone();
         if self.random.one_in(4) {
             self.requests.swap_remove(which);
         }
         let number = copy.number.expect("a message");
-        self.met.request(self.taken.saturating_sub(number + 1));
+        self.met.request(number, self.taken);
         let before = self.pair.tag();
         let answer = self.pair.serve(&mut self.memory, &copy.bytes);
-        if self.pair.tag() != before {
-            assert_eq!(number, self.taken, "carried out once, in order");
+        if number == self.taken {
             let request = naive::read(&copy.bytes).expect("well-formed");
-            naive::carried(&request, &mut self.model, &tags_of(before));
+            let words = naive::carried(&request, &mut self.model, &tags_of(before));
+            self.messages[number].answer = bytes_of(&words);
             self.taken += 1;
             self.requests.retain(|copy| self.taken <= copy.number.unwrap() + TOO_OLD);
+        }
+        let last_four = number < self.taken && self.taken <= number + 4;
+        match last_four {
+            true => assert!(answer.as_ref() == Ok(&self.messages[number].answer)),
+            false => assert_eq!(answer, Err(11)),
         }
         self.came_of(Some(number), answer);
     }
@@ -160,25 +199,11 @@ impl World {
         self.check_memory();
     }
 
-    /// A discovery without writes, whole or cut short; its answer may reach the sender.
-    fn discover(&mut self) {
-        let random = &mut self.random;
-        let kind = random.pick(&[Kind::Nop, Kind::Read]);
-        let (tag, memory) = (random.word() % 16, self.memory.len());
-        let wide = random.one_in(2);
-        let mut bytes = request(random, Wish { kind, tag, wide, discovery: true, memory });
-        if random.one_in(4) {
-            bytes.truncate(random.between(4, bytes.len()));
-        }
-        let before = self.pair.tag();
-        let answer = self.pair.serve(&mut self.memory, &bytes);
-        assert_eq!(self.pair.tag(), before);
-        self.came_of(None, answer);
-    }
-
-    /// k is the number finished or one more, and memory what the first k make of it.
-    fn check_memory(&self) {
-        assert!(self.taken == self.finished || self.taken == self.finished + 1);
+    /// k lies between the number finished and four more, and memory is what the first k make of it.
+    fn check_memory(&mut self) {
+        let unfinished = self.taken - self.finished;
+        assert!(unfinished <= PLACES);
+        self.met.unfinished(unfinished);
         assert!(self.memory == self.model, "after {} messages", self.taken);
     }
 
@@ -188,78 +213,53 @@ impl World {
         if self.random.one_in(4) || self.answers.len() > REMEMBERED {
             self.answers.swap_remove(which);
         }
-        let waited = self.pair.waits();
+        let none_waits = self.pair.waiting() == 0;
         let taken = self.pair.take(&copy.bytes);
         if let Err(refusal) = taken {
             self.met.refused(refusal);
         }
-        let Some(number) = copy.number else { return assert!(taken.is_err()) };
-        self.met.answer(self.offered - 1 - number);
-        if !waited {
-            assert_eq!(taken, Err(30));
-        } else if number + 1 == self.offered {
-            assert!(copy.bytes == self.expected);
+        if let Some(number) = copy.number {
+            self.met.answer(self.offered() - 1 - number);
+        }
+        match copy.number.filter(|n| self.unanswered().contains(n)) {
+            Some(number) => {
+                assert!(copy.bytes == self.messages[number].answer);
+                self.messages[number].answered = true;
+                self.check_outcomes(&taken.expect("the answer to one that waits is taken"));
+            }
+            None => assert_eq!(taken, Err(if none_waits { 30 } else { 33 }), "no such one waits"),
+        }
+        self.check_sender();
+    }
+
+    /// The messages that end are the oldest, up to the first that is not answered, and their
+    /// outcomes, in order, are those of the model's carrying out.
+    fn check_outcomes(&mut self, told: &[Told]) {
+        let waiting = &self.messages[self.finished..];
+        assert_eq!(told.len(), waiting.iter().take_while(|message| message.answered).count());
+        self.met.ended(told.len());
+        for told in told {
+            self.check_outcome(told);
             self.finished += 1;
-            self.check_outcome(taken.expect("the awaited answer is taken"));
-        } else {
-            assert_eq!(taken, Err(33), "an answer of another tag");
         }
     }
 
-    /// The outcome is that of the model's carrying out.
-    fn check_outcome(&mut self, told: Told) {
-        let request = naive::read(&self.message).expect("well-formed");
+    fn check_outcome(&mut self, told: &Told) {
+        let Message { bytes, answer, .. } = &self.messages[self.finished];
+        let request = naive::read(bytes).expect("well-formed");
         let kind = request.byte0 >> 4 & 3;
-        let model = naive::judge(&request, &self.expected).expect("a right answer");
+        let model = naive_sender::judge(&request, answer).expect("a right answer");
         assert_eq!(told.len(), model.len());
-        for ((status, data), (expected, start, end)) in told.into_iter().zip(model) {
-            assert_eq!(status, expected);
-            let read = kind == 2 && status == 0;
-            assert_eq!(data, if read { &self.expected[start..end] } else { &[] });
-            self.met.command(kind, status);
+        for ((status, data), (expected, start, end)) in told.iter().zip(model) {
+            assert_eq!(*status, expected);
+            let read = kind == 2 && *status == 0;
+            assert_eq!(*data, if read { &answer[start..end] } else { &[] });
+            self.met.command(kind, *status);
         }
-    }
-
-    /// Something happens that is no send.
-    pub fn noise(&mut self) {
-        match self.random.below(13) {
-            0..=4 if !self.requests.is_empty() => {
-                let which = self.random.below(self.requests.len());
-                self.arrive(which);
-            }
-            5..=10 if !self.answers.is_empty() => {
-                let which = self.random.below(self.answers.len());
-                self.back(which);
-            }
-            11 => self.discover(),
-            12 => self.out_of_turn(),
-            _ => {}
-        }
-    }
-
-    /// An offer while one waits, or a send while none does, is refused and changes nothing.
-    fn out_of_turn(&mut self) {
-        let refused = match self.pair.waits() {
-            true => self.pair.offer(&self.message),
-            false => self.pair.send().map(|_| ()),
-        };
-        let number = refused.expect_err("out of turn");
-        assert_eq!(number, if self.pair.waits() { 36 } else { 30 });
-        self.met.refused(number);
-    }
-
-    /// A send that arrives and whose answer is back before the next.
-    pub fn good_send(&mut self) {
-        self.send();
-        let newest = self.requests.len() - 1;
-        let answers = self.answers.len();
-        self.arrive(newest);
-        assert_eq!(self.answers.len(), answers + 1, "answered");
-        self.back(answers);
     }
 }
 
-/// A record with this tag stored, for the model's advertisement.
+/// A record that holds this tag, for the model's advertisement.
 fn tags_of(tag: Option<u32>) -> TagRecord {
-    TagRecord { fresh: tag.is_none(), tag: tag.unwrap_or(0), words: 1, request: 1 }
+    TagRecord { held: tag.iter().len() as u32, tag: tag.unwrap_or(0), ..TagRecord::fresh() }
 }

@@ -3,7 +3,7 @@
 use super::pair::{check_added, Told, TwoEnds};
 use charkhavo_host::builder::{Builder, Enables, Head, Kind, Nop, Read, Write};
 use charkhavo_host::plain::Addition;
-use charkhavo_host::{Controller, Refusal, Sender, Status};
+use charkhavo_host::{Controller, Outcome, Refusal, Sender, Status};
 
 pub struct Wrapped {
     controller: Controller,
@@ -35,16 +35,20 @@ impl TwoEnds for Wrapped {
         self.sender = Sender::discovered(answer).expect("a sender");
     }
 
-    fn next_tag(&self) -> u32 {
-        self.sender.next_tag()
+    fn new_tag(&self) -> u32 {
+        self.sender.new_tag()
     }
 
-    fn waits(&self) -> bool {
-        self.sender.waits()
+    fn waiting(&self) -> usize {
+        self.sender.waiting()
+    }
+
+    fn unanswered(&self) -> Vec<u32> {
+        self.sender.unanswered().collect()
     }
 
     fn build(&self, kind: u32, wide: bool, commands: &[Addition]) -> Vec<u8> {
-        let head = Head { tag: self.sender.next_tag(), wide, discovery: false };
+        let head = Head { tag: self.sender.new_tag(), wide, discovery: false };
         match kind {
             0 => built::<Nop>(head, commands, |builder, added| builder.nop(added.data)),
             1 => built::<Write>(head, commands, |builder, added| {
@@ -61,15 +65,18 @@ impl TwoEnds for Wrapped {
         self.sender.offer(message).map_err(number)
     }
 
-    fn send(&self) -> Result<Vec<u8>, u32> {
-        self.sender.send().map(<[u8]>::to_vec).map_err(number)
+    fn send(&self, tag: u32) -> Result<Vec<u8>, u32> {
+        self.sender.send(tag).map(<[u8]>::to_vec).map_err(number)
     }
 
-    fn take(&mut self, answer: &[u8]) -> Result<Told, u32> {
-        let outcome = self.sender.take(answer).map_err(number)?;
-        let told = |k| (code(outcome.status(k)), outcome.read_data(k).to_vec());
-        Ok((0..outcome.count()).map(told).collect())
+    fn take(&mut self, answer: &[u8]) -> Result<Vec<Told>, u32> {
+        Ok(self.sender.take(answer).map_err(number)?.map(told).collect())
     }
+}
+
+fn told(outcome: Outcome) -> Told {
+    let told = |k| (code(outcome.status(k)), outcome.read_data(k).to_vec());
+    (0..outcome.count()).map(told).collect()
 }
 
 fn built<K: Kind>(

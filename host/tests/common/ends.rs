@@ -37,7 +37,8 @@ pub trait Ends {
     fn offer(sender: Sender, request: &[u8]) -> Given<Sender>;
     /// The refusal and the length to send.
     fn send(sender: Sender, request: &[u8]) -> Given<usize>;
-    fn take(sender: Sender, request: &[u8], answer: &[u8]) -> Given<Sender>;
+    /// The refusal, the sender and how many messages ended.
+    fn take(sender: Sender, request: &[u8], answer: &[u8]) -> Given<(Sender, u8)>;
 
     fn count(request: &[u8], answer: &[u8]) -> usize;
     /// 3 for a command that is not answered.

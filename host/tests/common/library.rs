@@ -16,11 +16,11 @@ impl Ends for Library {
         tags: &mut TagRecord,
         datagram: &[u8],
     ) -> Given<usize> {
-        let TagRecord { fresh, tag, words, request } = *tags;
-        let mut record = ffi::TagRecord { fresh, tag, words, request };
+        let TagRecord { held, tag, words, request } = *tags;
+        let mut record = ffi::TagRecord { held, tag, words, request };
         let served = ffi::serve(memory, stored, kept, output, &mut record, datagram);
-        let ffi::TagRecord { fresh, tag, words, request } = record;
-        *tags = TagRecord { fresh, tag, words, request };
+        let ffi::TagRecord { held, tag, words, request } = record;
+        *tags = TagRecord { held, tag, words, request };
         (refusal(served.refusal), served.sent)
     }
 
@@ -60,8 +60,7 @@ impl Ends for Library {
     }
 
     fn fresh() -> Sender {
-        let ffi::Sender { next, waits } = ffi::fresh();
-        Sender { next, waits }
+        left(ffi::fresh())
     }
 
     fn discovered(answer: &[u8]) -> Given<Sender> {
@@ -77,8 +76,9 @@ impl Ends for Library {
         (refusal(sending.refusal), sending.length)
     }
 
-    fn take(sender: Sender, request: &[u8], answer: &[u8]) -> Given<Sender> {
-        moved(ffi::take(lent(sender), request, answer))
+    fn take(sender: Sender, request: &[u8], answer: &[u8]) -> Given<(Sender, u8)> {
+        let taken = ffi::take(lent(sender), request, answer);
+        (refusal(taken.refusal), (left(taken.sender), taken.ended))
     }
 
     fn count(request: &[u8], answer: &[u8]) -> usize {
@@ -112,11 +112,15 @@ fn built(refused: ffi::Refused, record: ffi::Building) -> Given<Building> {
 }
 
 fn lent(sender: Sender) -> ffi::Sender {
-    let Sender { next, waits } = sender;
-    ffi::Sender { next, waits }
+    let Sender { next, waiting, answered: [second, third, fourth] } = sender;
+    ffi::Sender { next, waiting, second, third, fourth }
+}
+
+fn left(sender: ffi::Sender) -> Sender {
+    let ffi::Sender { next, waiting, second, third, fourth } = sender;
+    Sender { next, waiting, answered: [second, third, fourth] }
 }
 
 fn moved(moved: ffi::Moved) -> Given<Sender> {
-    let ffi::Sender { next, waits } = moved.sender;
-    (refusal(moved.refusal), Sender { next, waits })
+    (refusal(moved.refusal), left(moved.sender))
 }

@@ -8,11 +8,12 @@ pub mod library;
 pub mod naive;
 pub mod naive_building;
 pub mod naive_ends;
+pub mod naive_sender;
 pub mod plain;
 pub mod seen;
 
 use crate::Ours;
-use charkhavo_host::limits::{BYTES, WORDS};
+use charkhavo_host::limits::{BYTES, KEPT, PLACES, STORED, WORDS};
 use charkhavo_host::plain::TagRecord;
 pub use charkhavo_host::random::bytes_of;
 use charkhavo_host::Refusal;
@@ -27,9 +28,20 @@ pub fn at(number: u32, word: usize) -> Refusal {
     Refusal::of(number).at_word(word)
 }
 
-/// A record that holds a tag, and the words of a stored answer and of a kept request.
-pub fn held(tag: u32, words: usize, request: usize) -> TagRecord {
-    TagRecord { fresh: false, tag, words, request }
+/// The place of a tag.
+pub fn place_of(tag: u32) -> usize {
+    tag as usize % PLACES
+}
+
+/// A record that holds messages back from this tag, the newest first: the words of the stored answer
+/// and of the kept request of each. It says 0 of all other places.
+pub fn held(tag: u32, lengths: &[(u32, u32)]) -> TagRecord {
+    let mut tags = TagRecord { held: lengths.len() as u32, tag, ..TagRecord::fresh() };
+    for (back, (words, request)) in lengths.iter().enumerate() {
+        let place = place_of(tag.wrapping_sub(back as u32));
+        (tags.words[place], tags.request[place]) = (*words, *request);
+    }
+    tags
 }
 
 pub fn words_of(bytes: &[u8]) -> Vec<u32> {
@@ -50,8 +62,8 @@ impl Bench {
     pub fn new(memory: Vec<u32>) -> Bench {
         Bench {
             memory,
-            stored: vec![0x5757_5757; WORDS + 3],
-            kept: vec![0x99; BYTES + 7],
+            stored: vec![0x5757_5757; STORED + 11],
+            kept: vec![0x99; KEPT + 15],
             output: vec![0xEE; BYTES + 5],
             tags: TagRecord::fresh(),
         }
@@ -62,15 +74,26 @@ impl Bench {
         Bench::new(vec![0, 0, 0, 0, 0xF00D_FACE, 0, 0, 0])
     }
 
-    /// The same, with this tag stored, and a NOP of it kept.
+    /// The same, with a NOP of this tag held, and no other message.
     pub fn with_tag(tag: u32) -> Bench {
         Bench::sheet().holding(&[0x8000_0000 | tag])
     }
 
-    /// The same, with these words as its kept request, and the tag that they have.
+    /// The same, with NOPs held back from this tag, so many.
+    pub fn with_tags(tag: u32, many: u32) -> Bench {
+        let mut bench = Bench::sheet();
+        for back in (0..many).rev() {
+            bench = bench.holding(&[0x8000_0000 | (tag.wrapping_sub(back) % 16)]);
+        }
+        Bench { tags: held(tag, &[(1, 1)].repeat(many as usize)), ..bench }
+    }
+
+    /// The same, with these words as the kept request of the tag that they have, and no other.
     pub fn holding(mut self, words: &[u32]) -> Bench {
-        self.kept[..4 * words.len()].copy_from_slice(&bytes_of(words));
-        self.tags = held(words[0] & 15, 1, words.len());
+        let tag = words[0] & 15;
+        let kept = &mut self.kept[BYTES * place_of(tag)..];
+        kept[..4 * words.len()].copy_from_slice(&bytes_of(words));
+        self.tags = held(tag, &[(1, words.len() as u32)]);
         self
     }
 
@@ -97,19 +120,22 @@ impl Bench {
         Ok(words_of(&self.output[..sent]))
     }
 
-    /// What lies past the answer, and past the request, keeps what it held; with an unchanged
-    /// record so do the stored answer and the kept request.
+    /// What lies past the answer keeps what it held. A repeat and a discovery leave record, stored
+    /// answers and kept requests; a new message has its own place of them, and leaves the others.
     fn check_left(&self, before: &Bench, datagram: &[u8], sent: usize) {
         assert!(sent.is_multiple_of(4) && (4..=BYTES).contains(&sent));
         assert_eq!(self.output[sent..], before.output[sent..]);
-        if self.tags == before.tags {
-            assert!(self.stored == before.stored && self.kept == before.kept);
-            return;
+        let Bench { mut stored, mut kept, mut tags, .. } = before.clone();
+        if self.tags != tags {
+            let (tag, answer) = (u32::from(datagram[0] & 15), words_of(&self.output[..sent]));
+            let place = place_of(tag);
+            stored[WORDS * place..][..answer.len()].copy_from_slice(&answer);
+            kept[BYTES * place..][..datagram.len()].copy_from_slice(datagram);
+            (tags.held, tags.tag) = ((tags.held + 1).min(4), tag);
+            tags.words[place] = answer.len() as u32;
+            tags.request[place] = datagram.len() as u32 / 4;
         }
-        let TagRecord { words, request, .. } = self.tags;
-        assert_eq!(bytes_of(&self.stored[..words]), self.output[..sent]);
-        assert_eq!(self.stored[words..], before.stored[words..]);
-        assert_eq!(self.kept[..4 * request], *datagram);
-        assert_eq!(self.kept[4 * request..], before.kept[4 * request..]);
+        assert_eq!(self.tags, tags);
+        assert!(self.stored == stored && self.kept == kept);
     }
 }

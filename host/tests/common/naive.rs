@@ -1,8 +1,9 @@
-//! Document 01 once more, slowly: lists and numbers, one sentence after the other, sharing
-//! nothing with the implementation but the limit and the records that go in and out.
+//! Document 01 and the requests that have landed once more, slowly: lists and numbers, one sentence
+//! after the other, sharing nothing with the implementation but the limit and the records that go in
+//! and out. Here the requests and the controller; `naive_sender` has the sender.
 
 use charkhavo_host::limits::WORDS;
-use charkhavo_host::plain::{Sender, TagRecord};
+use charkhavo_host::plain::TagRecord;
 use charkhavo_host::random::controller::Lent;
 
 pub struct Command {
@@ -20,11 +21,11 @@ pub struct Request {
 /// A refusal: its number, and the index of the header word being looked at.
 pub type Wrong = (u32, usize);
 
-fn bits(word: u32, high: u32, low: u32) -> u32 {
+pub fn bits(word: u32, high: u32, low: u32) -> u32 {
     ((u64::from(word) >> low) % (1 << (high - low + 1))) as u32
 }
 
-fn words_in(bytes: &[u8]) -> Vec<u32> {
+pub fn words_in(bytes: &[u8]) -> Vec<u32> {
     let word = |at: usize| (0..4).map(|i| u32::from(bytes[4 * at + i]) << (8 * i)).sum();
     (0..bytes.len() / 4).map(word).collect()
 }
@@ -45,7 +46,7 @@ pub fn read(bytes: &[u8]) -> Result<Request, Wrong> {
     }
 }
 
-fn ok_count(byte0: u32, command: &Command) -> usize {
+pub fn ok_count(byte0: u32, command: &Command) -> usize {
     if bits(byte0, 5, 4) == 1 {
         0
     } else {
@@ -133,7 +134,7 @@ fn carried_command(
     tags: &TagRecord,
 ) -> Option<Vec<u32>> {
     if bits(byte0, 5, 4) == 0 {
-        let stored = if tags.fresh { 0 } else { tags.tag + 16 };
+        let stored = if tags.held == 0 { 0 } else { tags.tag + 16 };
         return Some([4 * WORDS as u32, stored][..command.count].to_vec());
     }
     let end = u128::from(command.address) + 4 * command.count as u128;
@@ -158,17 +159,35 @@ fn carried_command(
     Some(Vec::new())
 }
 
+/// The tags that a record holds, the newest first.
+fn held(tags: &TagRecord) -> Vec<u32> {
+    (0..tags.held).map(|back| (tags.tag + 16 - back) % 16).collect()
+}
+
+fn record_allowed(tags: &TagRecord) -> bool {
+    if tags.held == 0 {
+        return true;
+    }
+    if tags.held > 4 || tags.tag > 15 {
+        return false;
+    }
+    let length = |words: u32| words > 0 && words as usize <= WORDS;
+    let both = |tag: u32| {
+        let place = tag as usize % 4;
+        length(tags.words[place]) && length(tags.request[place])
+    };
+    held(tags).into_iter().all(both)
+}
+
 /// The controller's call: refusal and length sent, everything lent as it is then.
 pub fn serve(lent: &mut Lent) -> (Wrong, usize) {
     let Lent { memory, stored, kept, output, tags, datagram } = lent;
     let lengths = !memory.is_empty()
         && memory.len() <= 16_384
-        && stored.len() >= WORDS
-        && kept.len() >= 4 * WORDS
+        && stored.len() >= 4 * WORDS
+        && kept.len() >= 16 * WORDS
         && output.len() >= 4 * WORDS;
-    let length = |words: usize| words > 0 && words <= WORDS;
-    let record = tags.fresh || (tags.tag < 16 && length(tags.words) && length(tags.request));
-    if !lengths || !record {
+    if !lengths || !record_allowed(tags) {
         return ((1, 0), 0);
     }
     let request = match read(datagram) {
@@ -176,113 +195,31 @@ pub fn serve(lent: &mut Lent) -> (Wrong, usize) {
         Err(refusal) => return (refusal, 0),
     };
     let (tag, discovery) = (bits(request.byte0, 3, 0), bits(request.byte0, 7, 7) == 1);
-    let repeat = !discovery && !tags.fresh && tag == tags.tag;
-    let new = !discovery && (tags.fresh || tag == (tags.tag + 1) % 16);
+    let held = held(tags);
+    let repeat = !discovery && held.contains(&tag);
+    let new = !discovery && tag == held.first().map_or(0, |newest| (newest + 1) % 16);
     if !discovery && !repeat && !new {
         return ((11, 0), 0);
     }
-    if repeat && !kept.iter().take(4 * tags.request).eq(datagram.iter()) {
+    let place = tag as usize % 4;
+    let kept = &mut kept[4 * WORDS * place..];
+    if repeat && !kept.iter().take(4 * tags.request[place] as usize).eq(datagram.iter()) {
         return ((12, 0), 0);
     }
+    let stored = &mut stored[WORDS * place..];
     let answer = match repeat {
-        true => stored[..tags.words].to_vec(),
+        true => stored[..tags.words[place] as usize].to_vec(),
         false => carried(&request, memory, tags),
     };
     if new {
         stored[..answer.len()].copy_from_slice(&answer);
-        kept.splice(..datagram.len(), datagram.iter().copied());
-        let (words, request) = (answer.len(), datagram.len() / 4);
-        *tags = TagRecord { fresh: false, tag, words, request };
+        kept[..datagram.len()].copy_from_slice(datagram);
+        tags.held = 4.min(held.len() as u32 + 1);
+        tags.tag = tag;
+        tags.words[place] = answer.len() as u32;
+        tags.request[place] = datagram.len() as u32 / 4;
     }
     let sent: Vec<u8> = answer.iter().flat_map(|word| word.to_le_bytes()).collect();
     output[..sent.len()].copy_from_slice(&sent);
     ((0, 0), sent.len())
-}
-
-/// Status and data place, in bytes, of each answered command: 32 to 35.
-pub fn judge(request: &Request, answer: &[u8]) -> Result<Vec<(u32, usize, usize)>, Wrong> {
-    if answer.is_empty() || !answer.len().is_multiple_of(4) || answer.len() > 4 * WORDS {
-        return Err((32, 0));
-    }
-    let words = words_in(answer);
-    if bits(words[0], 7, 0) != request.byte0 | 0x30 {
-        return Err((33, 0));
-    }
-    let (mut outcome, mut at) = (Vec::new(), 0);
-    for (k, command) in request.commands.iter().enumerate() {
-        let Some(header) = words.get(at).copied() else { return Err((35, at)) };
-        let (status, count) = (bits(header, 11, 8), bits(header, 27, 16) as usize);
-        let right = if status == 0 { ok_count(request.byte0, command) } else { 0 };
-        if bits(header, 7, 0) != request.byte0 | 0x30
-            || bits(header, 30, 28) != 0
-            || bits(header, 15, 12) != 0
-            || status >= 3
-            || count != right
-        {
-            return Err((34, at));
-        }
-        outcome.push((status, 4 * (at + 1), 4 * (at + 1 + count)));
-        let end = at + 1 + count;
-        let belongs = k + 1 == request.commands.len() || status != 0;
-        if end > words.len() || (bits(header, 31, 31) == 1) != belongs {
-            return Err((35, at));
-        }
-        if belongs {
-            return if end == words.len() { Ok(outcome) } else { Err((35, at)) };
-        }
-        at = end;
-    }
-    unreachable!("LAST belongs on the last command's header")
-}
-
-/// 31, with the tag clause if a tag is given.
-pub fn sendable(bytes: &[u8], tag: Option<u32>) -> Result<Request, Wrong> {
-    let request = read(bytes).map_err(|(_, at)| (31, at))?;
-    let tagged = tag.is_none_or(|tag| tag == bits(request.byte0, 3, 0));
-    if bits(request.byte0, 7, 7) == 1 || !tagged {
-        Err((31, 0))
-    } else {
-        Ok(request)
-    }
-}
-
-pub fn offer(sender: Sender, request: &[u8]) -> Result<Sender, Wrong> {
-    if sender.next > 15 {
-        return Err((37, 0));
-    }
-    if sender.waits {
-        return Err((36, 0));
-    }
-    sendable(request, Some(sender.next))?;
-    Ok(Sender { next: sender.next, waits: true })
-}
-
-pub fn send(sender: Sender, request: &[u8]) -> Result<Request, Wrong> {
-    if sender.next > 15 {
-        return Err((37, 0));
-    }
-    if !sender.waits {
-        return Err((30, 0));
-    }
-    sendable(request, Some(sender.next))
-}
-
-pub fn take(sender: Sender, request: &[u8], answer: &[u8]) -> Result<Sender, Wrong> {
-    judge(&send(sender, request)?, answer)?;
-    Ok(Sender { next: (sender.next + 1) % 16, waits: false })
-}
-
-/// The next tag that an answer to the fixed discovery tells.
-pub fn discovered(answer: &[u8]) -> Result<u32, Wrong> {
-    let discovery = [0x8002_0080, 4 * WORDS as u32, 0];
-    let bytes: Vec<u8> = discovery.iter().flat_map(|word| word.to_le_bytes()).collect();
-    let outcome = judge(&read(&bytes)?, answer)?;
-    if outcome[0].0 != 0 {
-        return Err((38, 0));
-    }
-    let word = words_in(answer)[2];
-    if bits(word, 31, 5) != 0 || (bits(word, 4, 4) == 0 && bits(word, 3, 0) != 0) {
-        return Err((38, 0));
-    }
-    Ok(if bits(word, 4, 4) == 1 { (bits(word, 3, 0) + 1) % 16 } else { 0 })
 }

@@ -1,8 +1,9 @@
-//! The slow second reading of document 01 as ends.
+//! The slow second reading of the rules as ends.
 
 use super::ends::{Ends, Given, ABSENT};
 use super::naive::{self, Wrong};
 use super::naive_building::{added, refused_21, Sequences};
+use super::naive_sender;
 use charkhavo_host::limits::WORDS;
 use charkhavo_host::plain::{Addition, Building, Sender, TagRecord};
 use charkhavo_host::random::bytes_of;
@@ -91,27 +92,27 @@ impl Ends for Naive {
     }
 
     fn fresh() -> Sender {
-        Sender { next: 0, waits: false }
+        Sender { next: 0, waiting: 0, answered: [false; 3] }
     }
 
     fn discovered(answer: &[u8]) -> Given<Sender> {
-        let next = naive::discovered(answer);
-        sender(next.map(|next| Sender { next, waits: false }), Sender { next: 16, waits: false })
+        let sender = |next| Sender { next, waiting: 0, answered: [false; 3] };
+        given(naive_sender::discovered(answer).map(sender), sender(16))
     }
 
     fn offer(before: Sender, request: &[u8]) -> Given<Sender> {
-        sender(naive::offer(before, request), before)
+        given(naive_sender::offer(before, request), before)
     }
 
     fn send(sender: Sender, request: &[u8]) -> Given<usize> {
-        match naive::send(sender, request) {
+        match naive_sender::send(sender, request) {
             Ok(_) => (Refusal::of(0), request.len()),
             Err(wrong) => (refusal(wrong), 0),
         }
     }
 
-    fn take(before: Sender, request: &[u8], answer: &[u8]) -> Given<Sender> {
-        sender(naive::take(before, request, answer), before)
+    fn take(before: Sender, request: &[u8], answer: &[u8]) -> Given<(Sender, u8)> {
+        given(naive_sender::take(before, request, answer), (before, 0))
     }
 
     fn count(request: &[u8], answer: &[u8]) -> usize {
@@ -147,16 +148,16 @@ fn refusal((number, at): Wrong) -> Refusal {
     Refusal::of(number).at_word(at)
 }
 
-fn sender(after: Result<Sender, Wrong>, otherwise: Sender) -> Given<Sender> {
+fn given<T>(after: Result<T, Wrong>, otherwise: T) -> Given<T> {
     match after {
-        Ok(sender) => (Refusal::of(0), sender),
+        Ok(after) => (Refusal::of(0), after),
         Err(wrong) => (refusal(wrong), otherwise),
     }
 }
 
 /// Each answered command; none where anything is refused.
 fn told(request: &[u8], answer: &[u8]) -> Vec<(u32, usize, usize)> {
-    naive::sendable(request, None)
-        .and_then(|request| naive::judge(&request, answer))
+    naive_sender::sendable(request, None)
+        .and_then(|request| naive_sender::judge(&request, answer))
         .unwrap_or_default()
 }

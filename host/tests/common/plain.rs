@@ -69,9 +69,9 @@ impl Ends for Plain {
         (refusal(&sent), sent.map_or(0, <[u8]>::len))
     }
 
-    fn take(mut sender: Sender, request: &[u8], answer: &[u8]) -> Given<Sender> {
+    fn take(mut sender: Sender, request: &[u8], answer: &[u8]) -> Given<(Sender, u8)> {
         let taken = sender.take(request, answer);
-        (refusal(&taken), sender)
+        (refusal(&taken), (sender, taken.unwrap_or(0)))
     }
 
     fn count(request: &[u8], answer: &[u8]) -> usize {

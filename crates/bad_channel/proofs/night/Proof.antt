@@ -1,14 +1,14 @@
--- `bad_channel::night` meets its contract: the messages left fall. Assumes nothing.
+-- `bad_channel::night` meets its contract: the steps left fall. Assumes nothing.
 use borrow.Author.Needs.{needs}
 use Prim.Native.Nat.{_-_}
 use Rattle.bad_channel.proofs.night.Statement.{statement}
 use Rattle.bad_channel.proofs.night.Tie as tie
 
 abbrev Inv-loop : tie.InvT-loop
-Inv-loop ends₀ i₀ ends i = Unit {0}
+Inv-loop ends₀ t₀ ends t = Unit {0}
 
 abbrev μ-loop : tie.MeasureT-loop
-μ-loop ends₀ i₀ ends i = 18 - i
+μ-loop ends₀ t₀ ends t = 140 - t
 
 dusk-requires : tie.Need-dusk-requires Inv-loop μ-loop
 dusk-requires c κs = search needs
@@ -16,11 +16,11 @@ dusk-requires c κs = search needs
 loop-holds : tie.Need-loop-holds Inv-loop μ-loop
 loop-holds c = search needs
 
-part-requires : tie.Need-part-requires Inv-loop μ-loop
-part-requires c κs = search needs
+step-requires : tie.Need-step-requires Inv-loop μ-loop
+step-requires c κs = search needs
 
-add-i : tie.Need-add-i Inv-loop μ-loop
-add-i c = search needs
+add-t : tie.Need-add-t Inv-loop μ-loop
+add-t c = search needs
 
 loop-less : tie.Need-loop-less Inv-loop μ-loop
 loop-less c = search needs
@@ -39,8 +39,8 @@ night-spec =
     μ-loop
     dusk-requires
     loop-holds
-    part-requires
-    add-i
+    step-requires
+    add-t
     loop-less
     loop-again
     returns)

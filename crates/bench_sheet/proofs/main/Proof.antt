@@ -8,7 +8,7 @@ abbrev Inv-loop : tie.InvT-loop
 Inv-loop bench₀ i₀ bench i = Unit {0}
 
 abbrev μ-loop : tie.MeasureT-loop
-μ-loop bench₀ i₀ bench i = 32 - i
+μ-loop bench₀ i₀ bench i = 50 - i
 
 fresh-requires : tie.Need-fresh-requires Inv-loop μ-loop
 fresh-requires c κs = search needs

@@ -11,27 +11,32 @@ use Rattle.message.specs.Request.{replies}
 use Rattle.answer.specs.Answer.{answerByte, answeredWords, answerWords}
 use Rattle.memory.specs.Moves.{outside, fetches, storesBehind, stores, moves, afterMoves, memoryAfter}
 use Rattle.carrying.specs.Answers.{answerOf, answers, answerTo, wordsTo}
-use Rattle.tags.specs.Rule.{repeats, expected, ruleOf}
-use Rattle.tags.specs.Record.{markOf, wordsOk, heldOk, recordOk, keptOk}
+use Rattle.tags.specs.Rule.{expected, ruleOf}
+use Rattle.tags.specs.Record.{markOf, holds, wordsAt, requestAt, wordsOk, placeOk, placesOk, heldOk, recordOk, keptOk, written, oneMore}
 use Rattle.completer.specs.Verdict.{lentOk, asKept, verdictBy}
 use Rattle.completer.specs.Serving.{answerBy, after}
-use Rattle.completer.specs.BenchSheet.{plays, sameRecord, benchStart, right, every, benchSheet, BenchHolds}
-use Rattle.completer.specs.Examples.{carriedLines, taggedLines, CallsHold, rightLeft, everyLeft, leftLines, LeftHolds, LentShown, LengthsShown}
+use Rattle.completer.specs.BenchSheet.{noneStored, noneKept, noneSent, benchStart, benchFresh, plays, sameRecord, right, every, benchFour, benchFive, benchSheet, BenchHolds}
+use Rattle.completer.specs.Examples.{benchFed, carriedLines, taggedLines, eachAt, benchAcross, heldLines, CallsHold}
+use Rattle.completer.specs.Lent.{fronts, leftStart, rightLeft, everyLeft, leftLines, LeftHolds, acrossPlayed, AcrossShown, LentShown, LengthsShown, PlacesShown}
 
 pub benched : BenchHolds
-unfolding wordsOf bytesOf put putWords byteOf bitOf ofBytes merged kindNo byte0From headerFrom headOf patternOk faultOf stepOn addressFrom commandOf commandsFrom replies ended lengthOk read answerByte answeredWords answerWords outside fetches storesBehind stores moves afterMoves memoryAfter answerOf answers answerTo wordsTo requestOf repeats expected markOf lentOk wordsOk heldOk recordOk keptOk ruleOf asKept verdictBy answerBy after plays same sameRecord benchStart right every benchSheet
+unfolding wordsOf bytesOf put putWords byteOf bitOf ofBytes merged kindNo byte0From headerFrom headOf patternOk faultOf stepOn addressFrom commandOf commandsFrom replies ended lengthOk read answerByte answeredWords answerWords outside fetches storesBehind stores moves afterMoves memoryAfter answerOf answers answerTo wordsTo requestOf holds expected markOf wordsAt requestAt lentOk wordsOk placeOk placesOk heldOk recordOk keptOk written oneMore ruleOf asKept verdictBy answerBy after noneStored noneKept noneSent benchStart benchFresh plays same sameRecord right every benchFour benchFive benchSheet
 benched = refl
 
 pub calls-hold : CallsHold
-unfolding wordsOf bytesOf put putWords byteOf bitOf ofBytes merged kindNo byte0From headerFrom headOf patternOk faultOf stepOn addressFrom commandOf commandsFrom replies ended lengthOk read answerByte answeredWords answerWords outside fetches storesBehind stores moves afterMoves memoryAfter answerOf answers answerTo wordsTo requestOf repeats expected markOf lentOk wordsOk heldOk recordOk keptOk ruleOf asKept verdictBy answerBy after plays same sameRecord benchStart right every carriedLines taggedLines
-calls-hold = (refl, refl)
+unfolding wordsOf bytesOf put putWords byteOf bitOf ofBytes merged kindNo byte0From headerFrom headOf patternOk faultOf stepOn addressFrom commandOf commandsFrom replies ended lengthOk read answerByte answeredWords answerWords outside fetches storesBehind stores moves afterMoves memoryAfter answerOf answers answerTo wordsTo requestOf holds expected markOf wordsAt requestAt lentOk wordsOk placeOk placesOk heldOk recordOk keptOk written oneMore ruleOf asKept verdictBy answerBy after noneStored noneKept noneSent benchStart benchFresh plays same sameRecord right every benchFed carriedLines taggedLines eachAt benchAcross heldLines
+calls-hold = (refl, refl, refl)
 
 pub left-holds : LeftHolds
-unfolding wordsOf bytesOf put putWords byteOf bitOf ofBytes merged kindNo byte0From headerFrom headOf patternOk faultOf stepOn addressFrom commandOf commandsFrom replies ended lengthOk read answerByte answeredWords answerWords outside fetches storesBehind stores moves afterMoves memoryAfter answerOf answers answerTo wordsTo requestOf repeats expected markOf lentOk wordsOk heldOk recordOk keptOk ruleOf asKept verdictBy answerBy after plays same benchStart rightLeft everyLeft leftLines
+unfolding wordsOf bytesOf put putWords byteOf bitOf ofBytes merged kindNo byte0From headerFrom headOf patternOk faultOf stepOn addressFrom commandOf commandsFrom replies ended lengthOk read answerByte answeredWords answerWords outside fetches storesBehind stores moves afterMoves memoryAfter answerOf answers answerTo wordsTo requestOf holds expected markOf wordsAt requestAt lentOk wordsOk placeOk placesOk heldOk recordOk keptOk written oneMore ruleOf asKept verdictBy answerBy after plays same fronts leftStart rightLeft everyLeft leftLines
 left-holds = refl
 
+pub across-shown : AcrossShown
+unfolding wordsOf bytesOf put putWords byteOf bitOf ofBytes merged kindNo byte0From headerFrom headOf patternOk faultOf stepOn addressFrom commandOf commandsFrom replies ended lengthOk read answerByte answeredWords answerWords outside fetches storesBehind stores moves afterMoves memoryAfter answerOf answers answerTo wordsTo requestOf holds expected markOf wordsAt requestAt lentOk wordsOk placeOk placesOk heldOk recordOk keptOk written oneMore ruleOf asKept verdictBy answerBy after noneStored noneKept noneSent benchStart plays same sameRecord eachAt benchAcross acrossPlayed
+across-shown = refl
+
 pub lent-shown : LentShown
-unfolding wordsOf bytesOf kindNo headOf faultOf stepOn addressFrom commandOf commandsFrom replies ended lengthOk read repeats expected lentOk wordsOk heldOk recordOk keptOk ruleOf asKept verdictBy patternOk
+unfolding wordsOf bytesOf kindNo headOf faultOf stepOn addressFrom commandOf commandsFrom replies ended lengthOk read holds expected requestAt lentOk wordsOk placeOk placesOk heldOk recordOk keptOk ruleOf asKept verdictBy patternOk
 lent-shown =
     record {
       noMemory = refl;
@@ -51,5 +56,9 @@ lent-shown =
     }
 
 pub lengths-shown : LengthsShown
-unfolding wordsOf bytesOf kindNo headOf faultOf stepOn addressFrom commandOf commandsFrom replies ended lengthOk read repeats expected lentOk wordsOk heldOk recordOk keptOk ruleOf asKept verdictBy patternOk same
+unfolding wordsOf bytesOf kindNo headOf faultOf stepOn addressFrom commandOf commandsFrom replies ended lengthOk read holds expected requestAt lentOk wordsOk placeOk placesOk heldOk recordOk keptOk ruleOf asKept verdictBy patternOk same
 lengths-shown = record { own = refl; shorter = refl; longer = refl }
+
+pub places-shown : PlacesShown
+unfolding wordsOf bytesOf kindNo headOf faultOf stepOn addressFrom commandOf commandsFrom replies ended lengthOk read holds expected requestAt lentOk wordsOk placeOk placesOk heldOk recordOk keptOk ruleOf asKept verdictBy patternOk same
+places-shown = record { own = refl; before = refl; newest = refl; first = refl }

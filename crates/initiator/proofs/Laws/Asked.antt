@@ -4,7 +4,6 @@ use mathlib.Core.Path.{_≡_, refl, sym, ap, _∙_}
 use mathlib.Core.Bool.{Bool, true, false, cond}
 use mathlib.Core.List.{List}
 use native.Mathlib.Omega.{arith}
-use lib.Dec.{eqb}
 use lib.ListN.{getD}
 use Rattle.header.specs.declared.refusal.Refusal.{Refusal}
 use Rattle.header.specs.Header.{tagOf, discoveryOf}
@@ -80,28 +79,28 @@ plainly-some (Means q) = go (discoveryOf (q .byte0))
     go true = omega arith
     go false = tt
 
--- under a tag
-module _ (tag : ℕ) (p : Reading Request) where
-  pub as-wrong : (r : Refusal) → plainly p ≡ Refused r → askedAs tag p ≡ Refused r
+-- under a tag that fits
+module _ (fits : ℕ → Bool) (p : Reading Request) where
+  pub as-wrong : (r : Refusal) → plainly p ≡ Refused r → askedAs fits p ≡ Refused r
   unfolding askedAs
   as-wrong r e = rw e
 
-  pub as-means : (q : Request) → plainly p ≡ Means q → askedAs tag p ≡ cond (eqb (tagOf (q .byte0)) tag) (Means q) (Refused (refusal 31))
+  pub as-means : (q : Request) → plainly p ≡ Means q → askedAs fits p ≡ cond (fits (tagOf (q .byte0))) (Means q) (Refused (refusal 31))
   unfolding askedAs
   as-means q e = rw e
 
   -- what the function tells of it
-  pub as-refused : (r : Refusal) → plainly p ≡ Refused r → RefusedAsking r ≡ askingOf (askedAs tag p)
+  pub as-refused : (r : Refusal) → plainly p ≡ Refused r → RefusedAsking r ≡ askingOf (askedAs fits p)
   as-refused r e = rw (as-wrong r e)
 
   module _ (q : Request) {byte0 : ℕ} (e : plainly p ≡ Means q) (f : byte0 ≡ q .byte0) where
-    pub as-other : eqb (tagOf byte0) tag ≡ false → RefusedAsking (refusal 31) ≡ askingOf (askedAs tag p)
-    as-other t = let u : eqb (tagOf (q .byte0)) tag ≡ false = ap (λ (n : ℕ). eqb (tagOf n) tag) (sym f) ∙ t in rw (as-means q e, u)
+    pub as-other : fits (tagOf byte0) ≡ false → RefusedAsking (refusal 31) ≡ askingOf (askedAs fits p)
+    as-other t = let u : fits (tagOf (q .byte0)) ≡ false = ap (λ (n : ℕ). fits (tagOf n)) (sym f) ∙ t in rw (as-means q e, u)
 
-    pub as-own : eqb (tagOf byte0) tag ≡ true → Asks byte0 ≡ askingOf (askedAs tag p)
-    as-own t = let u : eqb (tagOf (q .byte0)) tag ≡ true = ap (λ (n : ℕ). eqb (tagOf n) tag) (sym f) ∙ t in rw (as-means q e, u, f)
+    pub as-own : fits (tagOf byte0) ≡ true → Asks byte0 ≡ askingOf (askedAs fits p)
+    as-own t = let u : fits (tagOf (q .byte0)) ≡ true = ap (λ (n : ℕ). fits (tagOf n)) (sym f) ∙ t in rw (as-means q e, u, f)
 
-  pub as-reads : (q : Request) → askedAs tag p ≡ Means q → plainly p ≡ Means q
+  pub as-reads : (q : Request) → askedAs fits p ≡ Means q → plainly p ≡ Means q
   unfolding askedAs
   as-reads q e = go (plainly p) e
     where
@@ -109,11 +108,23 @@ module _ (tag : ℕ) (p : Reading Request) where
       by true m x = x
       by false m x = no-mean x
 
-      go : (x : Reading Request) → underTag tag x ≡ Means q → x ≡ Means q
+      go : (x : Reading Request) → underTag fits x ≡ Means q → x ≡ Means q
       go (Refused r) x = no-mean x
-      go (Means m) x = by (eqb (tagOf (m .byte0)) tag) m x
+      go (Means m) x = by (fits (tagOf (m .byte0))) m x
 
-  pub as-some : Some (askedAs tag p)
+  pub as-fits : (q : Request) → askedAs fits p ≡ Means q → fits (tagOf (q .byte0)) ≡ true
+  unfolding askedAs
+  as-fits q e = go (plainly p) e
+    where
+      by : (b : Bool) (m : Request) → fits (tagOf (m .byte0)) ≡ b → cond b (Means m) (Refused (refusal 31)) ≡ Means q → fits (tagOf (q .byte0)) ≡ true
+      by true m z x = let i : m ≡ q = cc in ap (λ (r : Request). fits (tagOf (r .byte0))) (sym i) ∙ z
+      by false m z x = no-mean x
+
+      go : (x : Reading Request) → underTag fits x ≡ Means q → fits (tagOf (q .byte0)) ≡ true
+      go (Refused r) x = no-mean x
+      go (Means m) x = by (fits (tagOf (m .byte0))) m refl x
+
+  pub as-some : Some (askedAs fits p)
   unfolding askedAs
   as-some = go (plainly p) (plainly-some p)
     where
@@ -121,45 +132,60 @@ module _ (tag : ℕ) (p : Reading Request) where
       by true m = tt
       by false m = omega arith
 
-      go : (x : Reading Request) → Some x → Some (underTag tag x)
+      go : (x : Reading Request) → Some x → Some (underTag fits x)
       go (Refused r) h = h
-      go (Means m) h = by (eqb (tagOf (m .byte0)) tag) m
+      go (Means m) h = by (fits (tagOf (m .byte0))) m
 
-  pub asks-as : (q : Request) → askedAs tag p ≡ Means q → asksAs tag p ≡ true
+  pub asks-as : (q : Request) → askedAs fits p ≡ Means q → asksAs fits p ≡ true
   unfolding asksAs
   asks-as q e = rw e
 
 -- 31 lets a message by, clause by clause
-module _ (tag : ℕ) (message : List ℕ) where
-  pub asks-wrong : (r : Refusal) → read message ≡ Refused r → false ≡ asksAs tag (read message)
+module _ (fits : ℕ → Bool) (message : List ℕ) where
+  pub asks-wrong : (r : Refusal) → read message ≡ Refused r → false ≡ asksAs fits (read message)
   unfolding asksAs
-  asks-wrong r e = rw (as-wrong tag (read message) (refusedAt 31 (r .at)) (plainly-wrong (read message) r e))
+  asks-wrong r e = rw (as-wrong fits (read message) (refusedAt 31 (r .at)) (plainly-wrong (read message) r e))
 
   module _ (q : Request) (is : read message ≡ Means q) (byte0 : ℕ) (first : byte0 ≡ getD message 0 0) where
     byte-is : byte0 ≡ q .byte0
     byte-is = first ∙ read-first message q is .1
 
-    pub asks-discovery : discoveryOf byte0 ≡ true → false ≡ asksAs tag (read message)
+    pub asks-discovery : discoveryOf byte0 ≡ true → false ≡ asksAs fits (read message)
     unfolding asksAs
     asks-discovery d =
         let e : plainly (read message) ≡ Refused (refusal 31) = plainly-means (read message) q is ∙ rw (← byte-is, d) in
-        rw (as-wrong tag (read message) (refusal 31) e)
+        rw (as-wrong fits (read message) (refusal 31) e)
 
-    pub asks-tag : discoveryOf byte0 ≡ false → eqb (tagOf byte0) tag ≡ asksAs tag (read message)
+    pub asks-tag : discoveryOf byte0 ≡ false → fits (tagOf byte0) ≡ asksAs fits (read message)
     unfolding asksAs
     asks-tag d =
         let e : plainly (read message) ≡ Means q = plainly-means (read message) q is ∙ rw (← byte-is, d) in
-        ap (λ (n : ℕ). eqb (tagOf n) tag) byte-is ∙ rw (as-means tag (read message) q e) (go (eqb (tagOf (q .byte0)) tag))
+        ap (λ (n : ℕ). fits (tagOf n)) byte-is ∙ rw (as-means fits (read message) q e) (go (fits (tagOf (q .byte0))))
       where
         go : (b : Bool) → b ≡ letsBy (cond b (Means q) (Refused (refusal 31)))
         go true = refl
         go false = refl
+
+-- 31 for a tag that does not fit, whatever else is wrong
+pub as-away : (fits : ℕ → Bool) (message : List ℕ) → fits (tagOf (getD message 0 0)) ≡ false → refusalIn (askedAs fits (read message)) .number ≡ 31
+as-away fits message e = go (read message) refl
+  where
+    by : (b : Bool) (q : Request) → read message ≡ Means q → plainly (read message) ≡ cond b (Refused (refusal 31)) (Means q)
+        → refusalIn (askedAs fits (read message)) .number ≡ 31
+    by true q is x = rw (as-wrong fits (read message) (refusal 31) x)
+    by false q is x =
+        let f : fits (tagOf (q .byte0)) ≡ false = ap (λ (n : ℕ). fits (tagOf n)) (sym (read-first message q is .1)) ∙ e in
+        rw (as-means fits (read message) q x, f)
+
+    go : (p : Reading Request) → read message ≡ p → refusalIn (askedAs fits (read message)) .number ≡ 31
+    go (Refused r) is = rw (as-wrong fits (read message) (refusedAt 31 (r .at)) (plainly-wrong (read message) r is))
+    go (Means q) is = by (discoveryOf (q .byte0)) q is (plainly-means (read message) q is)
 
 -- what 31 lets by has a meaning
 pub lets-means : (p : Reading Request) → letsBy p ≡ true → (q : Request) × (p ≡ Means q)
 lets-means (Refused r) e = let z : _≡_ {A = ℕ} 0 1 = cc in absurd (omega arith)
 lets-means (Means q) e = (q, refl)
 
-pub asked-means : (tag : ℕ) (p : Reading Request) → asksAs tag p ≡ true → (q : Request) × (askedAs tag p ≡ Means q)
+pub asked-means : (fits : ℕ → Bool) (p : Reading Request) → asksAs fits p ≡ true → (q : Request) × (askedAs fits p ≡ Means q)
 unfolding asksAs
-asked-means tag p e = lets-means (askedAs tag p) e
+asked-means fits p e = lets-means (askedAs fits p) e

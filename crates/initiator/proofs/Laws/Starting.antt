@@ -22,7 +22,7 @@ use Rattle.answer.specs.declared.Seen.{Seen}
 use Rattle.answer.specs.declared.Look.the-variants.{Item, Refused}
 use Rattle.answer.specs.Answer.{Answered, wanted, lookAt, lookTurn, answersFrom, headFault, judge}
 use Rattle.answer.proofs.Laws.Looking.{judge-passed, judge-refused, looked, Found, found}
-use Rattle.initiator.specs.Sender.{freshSender, wordOk, nextAfter, spoiled, startedAt, startedBy, startedFrom, startOf}
+use Rattle.initiator.specs.Sender.{idle, freshSender, wordOk, nextAfter, spoiled, startedAt, startedBy, startedFrom, startOf}
 
 -- a word that is let by is below 32
 pub word-lt : (w : ℕ) → wordOk w ≡ true → w < 32
@@ -89,7 +89,7 @@ pub started-fresh : startedAt 0 .sender ≡ freshSender
 unfolding startedAt wordOk nextAfter
 started-fresh = refl
 
-pub started-held : (tag : ℕ) → tag < 16 → startedAt (tag + 16) .sender ≡ record { next = nextTag tag; waits = false }
+pub started-held : (tag : ℕ) → tag < 16 → startedAt (tag + 16) .sender ≡ idle (nextTag tag)
 unfolding startedAt wordOk nextAfter
 started-held tag h =
     let n : (tag + 16) % 16 ≡ tag = omega arith in

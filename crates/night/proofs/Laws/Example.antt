@@ -11,8 +11,8 @@ use Rattle.message.specs.Request.{replies}
 use Rattle.answer.specs.Answer.{answerByte, answeredWords, answerWords}
 use Rattle.memory.specs.Moves.{outside, fetches, storesBehind, stores, moves, afterMoves, memoryAfter}
 use Rattle.carrying.specs.Answers.{answerOf, answers, answerTo, wordsTo}
-use Rattle.tags.specs.Rule.{repeats, expected, ruleOf}
-use Rattle.tags.specs.Record.{markOf, wordsOk, heldOk, recordOk, keptOk}
+use Rattle.tags.specs.Rule.{expected, ruleOf}
+use Rattle.tags.specs.Record.{markOf, holds as holdsTag, wordsAt, requestAt, wordsOk, placeOk, placesOk, heldOk, recordOk, keptOk, written, oneMore}
 use Rattle.completer.specs.Verdict.{lentOk, asKept, verdictBy}
 use Rattle.completer.specs.Serving.{answerBy, after}
 use Rattle.night.specs.Text.{digitsIn, decimal, lineOf, textOf, tagText}
@@ -24,9 +24,9 @@ unfolding digitsIn decimal textOf
 decimals-shown = (refl, refl, refl, refl, refl, refl, refl)
 
 pub zeros-shown : ZerosShown
-unfolding wordsOf bytesOf put putWords byteOf bitOf ofBytes merged kindNo byte0From headerFrom headOf patternOk faultOf stepOn addressFrom commandOf commandsFrom replies ended lengthOk read answerByte answeredWords answerWords outside fetches storesBehind stores moves afterMoves memoryAfter answerOf answers answerTo wordsTo requestOf repeats expected markOf lentOk wordsOk heldOk recordOk keptOk ruleOf asKept verdictBy answerBy after same lengthOf datagramOf afterRecord atFirst recordOf holds
+unfolding wordsOf bytesOf put putWords byteOf bitOf ofBytes merged kindNo byte0From headerFrom headOf patternOk faultOf stepOn addressFrom commandOf commandsFrom replies ended lengthOk read answerByte answeredWords answerWords outside fetches storesBehind stores moves afterMoves memoryAfter answerOf answers answerTo wordsTo requestOf holdsTag expected markOf wordsAt requestAt lentOk wordsOk placeOk placesOk heldOk recordOk keptOk written oneMore ruleOf asKept verdictBy answerBy after same lengthOf datagramOf afterRecord atFirst recordOf holds
 zeros-shown = refl
 
 pub nights-shown : NightsShown
-unfolding wordsOf bytesOf put putWords byteOf bitOf ofBytes merged kindNo byte0From headerFrom headOf patternOk faultOf stepOn addressFrom commandOf commandsFrom replies ended lengthOk read answerByte answeredWords answerWords outside fetches storesBehind stores moves afterMoves memoryAfter answerOf answers answerTo wordsTo requestOf repeats expected markOf lentOk wordsOk heldOk recordOk keptOk ruleOf asKept verdictBy answerBy after same digitsIn decimal lineOf textOf tagText lengthOf datagramOf afterRecord wholeTurn turnOf atFirst recordAt turns nightText recordOf holds nights right every
+unfolding wordsOf bytesOf put putWords byteOf bitOf ofBytes merged kindNo byte0From headerFrom headOf patternOk faultOf stepOn addressFrom commandOf commandsFrom replies ended lengthOk read answerByte answeredWords answerWords outside fetches storesBehind stores moves afterMoves memoryAfter answerOf answers answerTo wordsTo requestOf holdsTag expected markOf wordsAt requestAt lentOk wordsOk placeOk placesOk heldOk recordOk keptOk written oneMore ruleOf asKept verdictBy answerBy after same digitsIn decimal lineOf textOf tagText lengthOf datagramOf afterRecord wholeTurn turnOf atFirst recordAt turns nightText recordOf holds nights right every
 nights-shown = refl

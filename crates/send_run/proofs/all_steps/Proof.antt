@@ -8,7 +8,7 @@ abbrev Inv-loop : tie.InvT-loop
 Inv-loop s₀ i₀ s i = Unit {0}
 
 abbrev μ-loop : tie.MeasureT-loop
-μ-loop s₀ i₀ s i = 27 - i
+μ-loop s₀ i₀ s i = 40 - i
 
 fresh-requires : tie.Need-fresh-requires Inv-loop μ-loop
 fresh-requires c κs = search needs

@@ -1,24 +1,13 @@
--- `completer::serving::serve` meets its contract: the verdict decides. Assumes nothing.
-use mathlib.Core.Path.{sym, _∙_}
-use Rattle.completer.proofs.Inner.Verdicts.{carrying, again-fits, served-carried, served-by}
+-- `completer::serving::serve` meets its contract: the call, and the record that follows. Assumes nothing.
 use borrow.Author.Needs.{needs}
 use Rattle.completer.proofs.serving.serve.Statement.{statement}
 use Rattle.completer.proofs.serving.serve.Tie as tie
 
-verdict-of-requires : tie.Need-verdict-of-requires
-verdict-of-requires c κs = search needs
+dispatch-requires : tie.Need-dispatch-requires
+dispatch-requires c κs = search needs
 
-carries-requires : tie.Need-carries-requires
-carries-requires c κs = search needs
-
-keeps-requires : tie.Need-keeps-requires
-keeps-requires c κs = search needs
-
-act-requires : tie.Need-act-requires
-act-requires c κs =
-    let f = c .before .before .before .before .before in
-    let k = carrying (f .before .before .verdict-of .ensures) (sym (f .before .carries .ensures) ∙ f .if1 .taken) in
-    (k .means, k .good, record { stored = k .stored; output = k .output }, k .room)
+follow-requires : tie.Need-follow-requires
+follow-requires c κs = search needs
 
 same-length : tie.Need-same-length
 same-length c = search needs
@@ -34,49 +23,17 @@ same-length-4 c = search needs
 
 returns : tie.Need-returns
 returns c =
-    let a = c .before .before .before .before .before .before .before .before in
-    let f = a .before .before .before .before .before .before in
-    served-carried _ _ _ (f .before .before .verdict-of .ensures) (sym (f .before .carries .ensures) ∙ f .if1 .taken) (a .before .keeps .ensures) (a .act .ensures)
-
-settle-requires : tie.Need-settle-requires
-settle-requires c κs =
-    let f = c .before .before in
-    let v = f .before .before in
-    let s = v .before .before .before .before .before .before .before in
-    let k = again-fits _ (s .args .kept .now) (s .args .datagram .now) _ (v .verdict-of .ensures) in
-    (sym (f .before .carries .ensures) ∙ f .if1 .left, k .most, k .stored, k .output)
-
-same-length-5 : tie.Need-same-length-5
-same-length-5 c = search needs
-
-same-length-6 : tie.Need-same-length-6
-same-length-6 c = search needs
-
-same-length-7 : tie.Need-same-length-7
-same-length-7 c = search needs
-
-returns-2 : tie.Need-returns-2
-returns-2 c =
-    let t = c .before .before in
-    let v = t .before .before .before .before .before in
-    let s = v .before .before .before .before .before .before .before in
-    served-by _ _ _ (v .verdict-of .ensures) (t .settle .ensures (s .args .memory .now) (s .args .kept .now) (s .args .datagram .now))
+    let d = c .before .before .before .before .before .before .before .before .before .before in
+    rw (c .follow .ensures) (d .dispatch .ensures)
 
 pub serve-spec : {M : Type 1} → statement M
 serve-spec =
     tie.close
     (tie.spec
-    verdict-of-requires
-    carries-requires
-    keeps-requires
-    act-requires
+    dispatch-requires
+    follow-requires
     same-length
     same-length-2
     same-length-3
     same-length-4
-    returns
-    settle-requires
-    same-length-5
-    same-length-6
-    same-length-7
-    returns-2)
+    returns)

@@ -1,9 +1,10 @@
 -- `initiator::asking::ask_as` meets its contract: 31 but for the tag, then the tag. Assumes nothing.
 use mathlib.Core.Path.{sym, _∙_}
-use Rattle.word.proofs.Rules.{eqb-on, eqb-off}
+use borrow.Author.Tests.{eq-eqb, ne-eqb}
 use Rattle.message.specs.Walk.{read}
 use Rattle.initiator.specs.Asking.{plainly}
 use Rattle.initiator.proofs.Laws.Asked.{Found, asks-found, asks-refused, as-refused, as-other, as-own}
+use lib.Dec.{eqb}
 use borrow.Author.Needs.{needs}
 use Rattle.initiator.proofs.asking.ask_as.Statement.{statement}
 use Rattle.initiator.proofs.asking.ask_as.Tie as tie
@@ -20,7 +21,7 @@ enum-told c = search needs
 returns : tie.Need-returns
 returns c =
     let a = c .before .before in
-    c .enum-told .given .1 ∙ as-refused _ _ _ (asks-refused _ _ (sym (a .ask .ensures) ∙ c .enum-told .given .1))
+    c .enum-told .given .1 ∙ as-refused (eqb _) _ _ (asks-refused _ _ (sym (a .ask .ensures) ∙ c .enum-told .given .1))
 
 -- the request that may be asked
 module _ (c : tie.After-known-told) where
@@ -37,13 +38,13 @@ returns-2 : tie.Need-returns-2
 returns-2 c =
     let t = c .before .before in
     let f = found (t .before) in
-    rw (c .of .ensures) (as-other _ _ _ (f .is) (f .first) (eqb-off (t .tag .ensures .0) (c .before .if1 .taken)))
+    rw (c .of .ensures) (as-other (eqb _) _ _ (f .is) (f .first) (ne-eqb _ _ (λ z. c .before .if1 .taken (z ∙ sym (t .tag .ensures .0)))))
 
 returns-3 : tie.Need-returns-3
 returns-3 c =
     let t = c .before in
     let f = found (t .before) in
-    as-own _ _ _ (f .is) (f .first) (eqb-on (t .tag .ensures .0) (c .if1 .left))
+    as-own (eqb _) _ _ (f .is) (f .first) (eq-eqb _ _ (c .if1 .left ∙ t .tag .ensures .0))
 
 pub ask-as-spec : {M : Type 1} → statement M
 ask-as-spec =

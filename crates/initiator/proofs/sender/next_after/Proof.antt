@@ -11,6 +11,9 @@ tag-requires c κs = search needs
 next-tag-requires : tie.Need-next-tag-requires
 next-tag-requires c κs = search needs
 
+cast-result : tie.Need-cast-result
+cast-result c = search needs
+
 returns : tie.Need-returns
 unfolding nextAfter
 returns c = search tests
@@ -20,4 +23,4 @@ unfolding nextAfter
 returns-2 c = search (tests, ← c .before .tag .ensures .0, c .next-tag .ensures .0)
 
 pub next-after-spec : {M : Type 1} → statement M
-next-after-spec = tie.close (tie.spec tag-requires next-tag-requires returns returns-2)
+next-after-spec = tie.close (tie.spec tag-requires next-tag-requires cast-result returns returns-2)

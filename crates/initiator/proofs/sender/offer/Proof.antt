@@ -1,8 +1,10 @@
 -- `initiator::sender::offer` meets its contract: accepted or refused. Assumes nothing.
 use mathlib.Core.Path.{sym, ap, _∙_}
+use denote.Ref.{now}
 use Rattle.initiator.specs.Asking.{refusalOf}
-use Rattle.initiator.proofs.Laws.Asked.{asks-found, asks-refused}
-use Rattle.initiator.proofs.Inner.Sending.{offer-refused, offer-taken}
+use Rattle.initiator.specs.Sender.{offering}
+use Rattle.initiator.proofs.Laws.Asked.{Found, asks-found, asks-refused}
+use Rattle.initiator.proofs.Inner.Sending.{offers, offer-refused, offer-taken}
 use borrow.Author.Needs.{needs}
 use Rattle.initiator.proofs.sender.offer.Statement.{statement}
 use Rattle.initiator.proofs.sender.offer.Tie as tie
@@ -27,10 +29,15 @@ returns c =
 of-requires : tie.Need-of-requires
 of-requires c κs = search needs
 
+-- the message that may be offered
+found : (c : tie.After-enum-told) → Found (offering (c .before .before .before .before .args .sender) (now (c .before .before .before .before .args .message))) (c .enum-told .given .0 .0)
+found c = asks-found _ _ (sym (c .before .before .offering .ensures) ∙ c .enum-told .given .1)
+
+with-one-requires : tie.Need-with-one-requires
+with-one-requires c κs = offers _ _ _ (found (c .before) .is) .room
+
 returns-2 : tie.Need-returns-2
-returns-2 c =
-    let t = c .before in
-    rw (c .of .ensures) (offer-taken _ _ _ (asks-found _ _ (sym (t .before .before .offering .ensures) ∙ t .enum-told .given .1) .is))
+returns-2 c = rw (c .before .of .ensures, c .with-one .ensures) (offer-taken _ _ _ (found (c .before .before) .is))
 
 pub offer-spec : {M : Type 1} → statement M
 offer-spec =
@@ -42,4 +49,5 @@ offer-spec =
     refusal-of-requires
     returns
     of-requires
+    with-one-requires
     returns-2)

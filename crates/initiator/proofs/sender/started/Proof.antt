@@ -25,11 +25,24 @@ of-requires-2 c κs = search needs
 next-after-requires : tie.Need-next-after-requires
 next-after-requires c κs = word-lt _ (flag-on (c .before .before .word-ok .ensures) (c .before .if1 .left))
 
+idle-requires : tie.Need-idle-requires
+idle-requires c κs = search needs
+
 returns-2 : tie.Need-returns-2
 unfolding startedAt
-returns-2 c = simp (flag-on (c .before .before .before .word-ok .ensures) (c .before .before .if1 .left), c .before .of2 .ensures, c .next-after .ensures)
+returns-2 c =
+    let n = c .before in
+    simp (c .idle .ensures, flag-on (n .before .before .before .word-ok .ensures) (n .before .before .if1 .left), n .before .of2 .ensures, n .next-after .ensures)
 
 pub started-spec : {M : Type 1} → statement M
 started-spec =
     tie.close
-    (tie.spec word-ok-requires of-requires spoilt-requires returns of-requires-2 next-after-requires returns-2)
+    (tie.spec
+    word-ok-requires
+    of-requires
+    spoilt-requires
+    returns
+    of-requires-2
+    next-after-requires
+    idle-requires
+    returns-2)

@@ -1,8 +1,10 @@
 -- `night::Night::start` meets its contract: zero words, zeros stored and kept, a fresh record. Assumes nothing.
+use Prim.Native.Nat.{_*_}
 use mathlib.Core.Path.{ap}
 use lib.ListN.{replicate}
 use Rattle.header.specs.Limits.{limit, limitBytes}
 use Rattle.tags.specs.declared.record.TagRecord.{TagRecord}
+use Rattle.tags.specs.Record.{places}
 use Rattle.completer.specs.Controller.{lent}
 use Rattle.night.specs.Night.{memoryWords, atFirst}
 use borrow.Author.Needs.{needs}
@@ -14,7 +16,8 @@ fresh-requires c κs = search needs
 
 returns : tie.Need-returns
 unfolding atFirst
-returns c = ap (λ (t : TagRecord). lent (replicate memoryWords 0) (replicate limit 0) (replicate limitBytes 0) t) (c .fresh .ensures)
+returns c =
+    ap (λ (t : TagRecord). lent (replicate memoryWords 0) (replicate (places * limit) 0) (replicate (places * limitBytes) 0) t) (c .fresh .ensures)
 
 pub start-spec : {M : Type 1} → statement M
 start-spec = tie.close (tie.spec fresh-requires returns)

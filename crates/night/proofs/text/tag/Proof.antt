@@ -1,5 +1,6 @@
 -- `night::text::tag` meets its contract: one run, or two. Assumes nothing.
 use mathlib.Core.List.{_++_}
+use borrow.Author.Tests.{eq-eqb, ne-eqb}
 use Rattle.night.specs.Text.{ascii, decimal, tagText}
 use Rattle.night.proofs.Inner.Written.{wrote-then}
 use borrow.Author.Needs.{needs}
@@ -14,7 +15,9 @@ say-requires c κs = search needs
 
 returns : tie.Need-returns
 unfolding tagText
-returns c = rw (c .before .before .before .if1 .taken) (c .say .ensures)
+returns c =
+    let t = c .before .before .before in
+    rw (eq-eqb (t .before .before .args .tags .held) 0 (t .if1 .taken)) (c .say .ensures)
 
 slice-aggregate-named : tie.Need-slice-aggregate-named
 slice-aggregate-named c = search needs
@@ -36,8 +39,8 @@ unfolding tagText
 returns-2 c =
     let m = c .before .before .before in
     let s = c .before .before .before .before .before .before .before in
-    let a = s .before .args in
-    rw (s .if1 .left) (wrote-then (a .line .now) 0 (ascii "tag " ++ decimal (a .tags .tag)) (ascii "\n") (search needs) (m .named .ensures .0) (c .say2 .ensures))
+    let a = s .before .before .args in
+    rw (ne-eqb (a .tags .held) 0 (s .if1 .left)) (wrote-then (a .line .now) 0 (ascii "tag " ++ decimal (a .tags .tag)) (ascii "\n") (search needs) (m .named .ensures .0) (c .say2 .ensures))
 
 pub tag-spec : {M : Type 1} → statement M
 tag-spec =

@@ -1,0 +1,25 @@
+-- `tags::record::words_at` meets its contract. Assumes nothing.
+use Rattle.tags.specs.Record.{wordsAt}
+use borrow.Author.Needs.{needs}
+use Rattle.tags.proofs.record.words_at.Statement.{statement}
+use Rattle.tags.proofs.record.words_at.Tie as tie
+
+place-requires : tie.Need-place-requires
+place-requires c κs = search needs
+
+mul-result : tie.Need-mul-result
+mul-result c = search needs
+
+element-copy-out-result : tie.Need-element-copy-out-result
+element-copy-out-result c = search needs
+
+cast-result : tie.Need-cast-result
+cast-result c = search needs
+
+returns : tie.Need-returns
+unfolding wordsAt
+returns c = rw (c .before .place .ensures .0)
+
+pub words-at-spec : {M : Type 1} → statement M
+words-at-spec =
+    tie.close (tie.spec place-requires mul-result element-copy-out-result cast-result returns)
