@@ -8,7 +8,8 @@ use lib.Dec.{ltb, leb, eqb}
 use Rattle.word.specs.Words.{wordsOf, bytesOf, Words}
 use Rattle.header.specs.declared.Kind.the-variants.{Response}
 use Rattle.header.specs.declared.refusal.Refusal.{Refusal}
-use Rattle.header.specs.Header.{tagOf, kindOf, wideOf, discoveryOf, byte0Of, byte1Of, countOf, reservedOf, lastOf, byte0From, headerFrom, replyWords, endsOk}
+use Rattle.header.specs.Header.{tagOf, kindOf, wideOf, discoveryOf, byte0Of, byte1Of, countOf, reservedOf, lastOf}
+use Rattle.header.specs.Header.{byte0From, headerFrom, replyWords, endsOk}
 use Rattle.header.specs.Refusal.{refusedAt, refusal, unless}
 use Rattle.header.specs.Limits.{lengthOk}
 use Rattle.message.specs.Request.{Command, Request, Reading, Refused, Means, before, none}

@@ -11,7 +11,8 @@ use Rattle.header.specs.Refusal.{refusedAt}
 use Rattle.header.specs.Limits.{lengthOk}
 use Rattle.message.specs.Request.{Command, Request, Refused, Means, none}
 use Rattle.answer.specs.declared.Status.the-variants.{Ok}
-use Rattle.answer.specs.Answer.{Answered, answerByte, answerFault, judge, answeredWords, encodeAnswer, FitsAnswered, FitsAnswer}
+use Rattle.answer.specs.Answer.{Answered, answerByte, answerFault, judge, answeredWords, encodeAnswer}
+use Rattle.answer.specs.Answer.{FitsAnswered, FitsAnswer}
 
 -- OK answers that others follow: none of them is LAST
 unfoldable pub openAnswers : ℕ → List Answered → List ℕ

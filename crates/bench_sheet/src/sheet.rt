@@ -3,6 +3,9 @@ use tags::record::TagRecord;
 
 pub(crate) const LINES: usize = 50;
 
+// The first line of [9].
+const FOUR: usize = 26;
+
 // The controller on the bench.
 pub(crate) struct Bench {
     pub(crate) memory: [u32; 8],
@@ -36,6 +39,15 @@ pub(crate) struct Datagram {
 
 // A star: the line is one of the marked ones.
 pub(crate) fn say_label(i: usize) {
+    if i < FOUR {
+        say_before_four(i);
+    } else {
+        say_from_four(i - FOUR);
+    }
+}
+
+// The lines before [9]: one message is held.
+fn say_before_four(i: usize) {
     show::line(
         b"* NOP
 * forced read
@@ -62,8 +74,15 @@ pub(crate) fn say_label(i: usize) {
 * (a) with a write behind it
 * (a) again
   a read
-* the read with another byte 1
-* fresh, tag 1
+* the read with another byte 1",
+        i,
+    );
+}
+
+// [9]: a fresh record, four held and a fifth message; then the lines without a star.
+fn say_from_four(i: usize) {
+    show::line(
+        b"* fresh, tag 1
 * fresh, tag 15
   (a)
   tag 1, a read

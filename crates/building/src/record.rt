@@ -2,7 +2,8 @@
 ghost use mathlib.Core.Path.{_≡_};
 ghost use Prim.Native.Nat.{_<_, _≤_};
 ghost use Rattle.header.specs.Limits.{limit};
-ghost use Rattle.building.specs.Record.{startOk, byte0By, freshOk, nopsOk, writesOk, readsOk, shapeOk, someOk, reachable};
+ghost use Rattle.building.specs.Record.{startOk, byte0By, freshOk, nopsOk, writesOk, readsOk, shapeOk, someOk};
+ghost use Rattle.building.specs.Record.{reachable};
 use header::Kind;
 use header::limits;
 

@@ -6,7 +6,8 @@ use mathlib.Core.Bool.{Bool, true, false, cond}
 use mathlib.Core.List.{List, [], _∷_}
 use lib.ListN.{length, getD, take, drop}
 use Rattle.header.specs.Limits.{limit}
-use Rattle.header.specs.Header.{kindOf, byte1Of, countOf, lastOf, headerFrom, addressWords, dataWords, bodyWords, replyWords}
+use Rattle.header.specs.Header.{kindOf, byte1Of, countOf, lastOf, headerFrom, addressWords, dataWords, bodyWords}
+use Rattle.header.specs.Header.{replyWords}
 use Rattle.message.specs.Faults.{countOk}
 use Rattle.message.specs.Request.{Command, Request}
 use Rattle.message.specs.Address.{addressFrom}

@@ -107,8 +107,8 @@ pub(crate) fn put_run(stored: &mut [u32], output: &mut [u8], keep: bool, n: usiz
         put_both(stored, output, keep, n, words[0]);
         return;
     }
-    word::run::put_words(output, n, words);
     keep_words(stored, keep, n, words);
+    word::run::put_words(output, n, words);
 }
 
 // The first `count` words of the advertisement: the record's own constant, then `mark`.

@@ -103,7 +103,7 @@ module _ (c : Controller) (b d : List ℕ) (h : Sound c) (l : Lendable b) (p : P
   right : Right (length d)
   right = read-first d (p .request) (p .is) .0
 
-  sound-new : Sound (afterBy New c b d .controller)
+  pub sound-new : Sound (afterBy New c b d .controller)
   sound-new =
       let n = same-length (requestOf d) (c .memory) in
       let k = short c h (requestOf d) (asked-fits p) in

@@ -1,5 +1,5 @@
 -- The night of the incident, from bytes: a watchdog restarts the loader, and it counts its tags from nought behind the
--- controller's back. proofs/Example.antt computes it, with document 01's controller and with ours. Assumes nothing.
+-- controller's back. proofs/Incident.antt computes it, with document 01's controller and with ours. Assumes nothing.
 use Prim.Native.Nat.{ℕ, zero, suc, _+_, _*_}
 use mathlib.Core.Path.{_≡_}
 use mathlib.Core.Bool.{true, false, cond}

@@ -5,7 +5,8 @@ use mathlib.Core.Path.{_≡_}
 use mathlib.Core.Bool.{true, false}
 use mathlib.Core.List.{List, [], _∷_}
 use Rattle.header.specs.Limits.{limit, lengthOk}
-use Rattle.header.specs.Header.{tagOf, nextTag, numberOf, kindOf, wideOf, discoveryOf, byte1Of, firstField, lastField, countOf, reservedOf, lastOf, bit, sizeOf}
+use Rattle.header.specs.Header.{tagOf, nextTag, numberOf, kindOf, wideOf, discoveryOf, byte1Of, firstField}
+use Rattle.header.specs.Header.{lastField, countOf, reservedOf, lastOf, bit, sizeOf}
 
 -- [6] "8,972 bytes, 2,243 words": so many bytes are let by, a word more is not; nor are none, nor a part of a word
 abbrev pub LimitShown : Type 0

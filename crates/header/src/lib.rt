@@ -5,7 +5,10 @@
 ghost use mathlib.Core.Path.{_≡_};
 ghost use Prim.Native.Nat.{_<_, _≤_};
 ghost use Rattle.header.specs.Limits.{tagCount};
-ghost use Rattle.header.specs.Header.{tagOf, numberOf, kindNo, kindOf, wideOf, discoveryOf, byte0Of, byte1Of, firstField, lastField, countOf, reservedOf, lastOf, bit, byte0From, headerFrom, addressBy, addressWords, dataWords, replyWords, bodyWords, sizeOf, headOf, endsOk, nextTag};
+ghost use Rattle.header.specs.Header.{tagOf, numberOf, kindNo, kindOf, wideOf, discoveryOf, byte0Of, byte1Of};
+ghost use Rattle.header.specs.Header.{firstField, lastField, countOf, reservedOf, lastOf, bit, byte0From};
+ghost use Rattle.header.specs.Header.{headerFrom, addressBy, addressWords, dataWords, replyWords, bodyWords};
+ghost use Rattle.header.specs.Header.{sizeOf, headOf, endsOk, nextTag};
 
 pub mod limits;
 pub mod refusal;

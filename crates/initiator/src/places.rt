@@ -5,7 +5,8 @@ ghost use mathlib.Core.Bool.{_||_};
 ghost use Prim.Native.Nat.{_<_, _≤_};
 ghost use lib.Dec.{eqb};
 ghost use Rattle.header.specs.Limits.{tagCount};
-ghost use Rattle.initiator.specs.Places.{most, senderOk, hasRoom, placeIn, markAt, answeredAt, waitsFor, newTag, withOne, marked, endingOf, without};
+ghost use Rattle.initiator.specs.Places.{most, senderOk, hasRoom, placeIn, markAt, answeredAt, waitsFor};
+ghost use Rattle.initiator.specs.Places.{newTag, withOne, marked, endingOf, without};
 use crate::sender::Sender;
 use header::limits;
 

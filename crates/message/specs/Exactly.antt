@@ -11,7 +11,8 @@ use Rattle.header.specs.Limits.{limit, lengthOk}
 use Rattle.header.specs.Header.{addressWords}
 use Rattle.header.specs.Refusal.{refusedAt}
 use Rattle.message.specs.Faults.{faultOf}
-use Rattle.message.specs.Request.{Command, Request, Refused, Means, replies, commandWords, written, FitsCommand, All, FitsAsked, Fits}
+use Rattle.message.specs.Request.{Command, Request, Refused, Means, replies, commandWords, written, FitsCommand}
+use Rattle.message.specs.Request.{All, FitsAsked, Fits}
 use Rattle.message.specs.Address.{addressFrom}
 use Rattle.message.specs.Walk.{read}
 

@@ -5,7 +5,8 @@ use mathlib.Core.Bool.{Bool, true, false, not, cond, _&&_, _||_}
 use lib.Dec.{leb, eqb}
 use Rattle.header.specs.declared.Kind.{Kind}
 use Rattle.header.specs.declared.Kind.the-variants.{Nop, Write, Read as Reads, Response}
-use Rattle.header.specs.Header.{kindOf, byte0Of, byte1Of, firstField, lastField, countOf, reservedOf, lastOf, addressWords, bodyWords, endsOk}
+use Rattle.header.specs.Header.{kindOf, byte0Of, byte1Of, firstField, lastField, countOf, reservedOf, lastOf}
+use Rattle.header.specs.Header.{addressWords, bodyWords, endsOk}
 use Rattle.header.specs.Refusal.{unless}
 
 -- a request's kind: every one but "3 response"

@@ -4,7 +4,7 @@ ghost use Prim.Native.Nat.{ℕ, _≤_};
 ghost use mathlib.Core.Bool.{true, cond};
 ghost use lib.ListN.{length};
 ghost use Rattle.word.specs.Words.{wordsOf};
-ghost use Rattle.header.specs.declared.Kind.the-variants.{Write};
+ghost use Rattle.header.specs.declared.Kind.the-variants.{Write, Read as Reads};
 ghost use Rattle.message.specs.Faults.{isWrite, faultOf};
 ghost use Rattle.message.specs.Walk.{refusalOf, commandsFrom, stepAt, endOf, finish, walkOf};
 ghost use Rattle.header.specs.Limits.{limit, limitBytes};
@@ -56,6 +56,39 @@ fn short_write(byte0: u32, h: u32, left: usize) -> bool
     body <= left
 }
 
+// Whether byte 0 is a read's: then it is one.
+fn reads(byte0: u32) -> bool
+    ensures { λ r. ⌜ (r ≡ true → kindOf byte0 ≡ Reads) ⌝ }
+{
+    let kind = header::kind_of(byte0);
+    match kind {
+        Kind::Nop => false,
+        Kind::Write => false,
+        Kind::Read => true,
+        Kind::Response => false,
+    }
+}
+
+// Whether this is a read without fault that ends the message, as most reads do; of the rest nothing is said. It is LAST
+// and its reserved bits are 0 exactly if bits 31:28 are 8.
+fn last_read(byte0: u32, h: u32, left: usize) -> bool
+    ensures { λ r. ⌜ (r ≡ true → (address : ℕ) → faultOf byte0 h left address ≡ 0) ⌝ }
+{
+    if !reads(byte0) {
+        return false;
+    }
+    if header::byte0(h) != byte0 {
+        return false;
+    }
+    if h / 268435456 != 8 {
+        return false;
+    }
+    if header::count(h) == 0 {
+        return false;
+    }
+    left == header::address_words(byte0)
+}
+
 // The header at word `at` of a datagram. The body of a short write has a size of its own here, so that the processor
 // knows where the next header stands before it has this one.
 pub(crate) fn step_at(byte0: u32, datagram: &[u8], at: usize) -> Step
@@ -79,6 +112,9 @@ pub(crate) fn step_at(byte0: u32, datagram: &[u8], at: usize) -> Step
             body: header::address_words(byte0) + 1,
             last: header::last(h),
         });
+    }
+    if last_read(byte0, h, left) {
+        return Step::Read(header::head_of(byte0, h));
     }
     let number = faults::fault(byte0, h, left, datagram, at);
     if number != 0 {

@@ -8,7 +8,7 @@ use lib.ListN.{length, take, replicate}
 use Rattle.word.specs.Words.{bytesOf, same}
 use Rattle.header.specs.Limits.{limitBytes}
 use Rattle.message.specs.Examples.{fifthDiffers}
-use Rattle.completer.specs.BenchSheet.{writeFeed, writeOther, writeLonger}
+use Rattle.figures.specs.BenchSheet.{writeFeed, writeOther, writeLonger}
 use Rattle.night.specs.Text.{ascii, decimal, Short, textOf}
 use Rattle.night.specs.Night.{afterRecord, atFirst, nightText}
 

@@ -8,7 +8,8 @@ use Rattle.header.specs.Refusal.{refusal}
 use Rattle.tags.specs.declared.record.TagRecord.{TagRecord}
 use Rattle.tags.specs.declared.rule.Verdict.{Verdict}
 use Rattle.tags.specs.declared.rule.Verdict.the-variants.{Refused, New, Repeat, Discovery}
-use Rattle.tags.specs.Record.{freshRecord, markOf, mostMemory, holds, wordsAt, requestAt, recordOk, keptOk, recordBy}
+use Rattle.tags.specs.Record.{freshRecord, markOf, mostMemory, recordOk, keptOk, recordBy}
+use Rattle.tags.specs.Record.{holds, wordsAt, requestAt}
 use Rattle.tags.specs.Rule.{ruleOf}
 
 -- a record that holds so many, the newest of this tag, with these answers and these requests at the four places

@@ -1,10 +1,11 @@
 // The tag record: how many messages are held, the newest one's tag, and the lengths of each one's answer and request.
 ghost use mathlib.Core.Path.{_≡_};
-ghost use mathlib.Core.Bool.{true, cond};
+ghost use mathlib.Core.Bool.{true, cond, _&&_};
 ghost use lib.Dec.{eqb};
 ghost use Prim.Native.Nat.{_<_};
 ghost use Rattle.header.specs.Limits.{tagCount};
-ghost use Rattle.tags.specs.Record.{freshRecord, markOf, placeOf, wordsOk, placeOk, placesOk, heldOk, recordOk, keptOk, wordsAt, requestAt, written, oneMore, recordBy};
+ghost use Rattle.tags.specs.Record.{places, freshRecord, markOf, placeOf, wordsOk, placeOk, placesOk, heldOk};
+ghost use Rattle.tags.specs.Record.{recordOk, keptOk, wordsAt, requestAt, written, oneMore, recordBy};
 use header::limits;
 
 // What the controller keeps of the last messages beside their bytes and their answers: how many are held, the tag of
@@ -74,14 +75,35 @@ fn words_ok(words: u32) -> bool
     words as usize <= TagRecord::WORDS
 }
 
-// Check 1 of a place, whose message is so far back from the newest. All is looked at, so that the compiler asks for
-// four places at once.
-fn place_ok(held: u32, back: u32, words: u32, request: u32) -> bool
-    ensures { λ r. ⌜ r ≡ placeOk held back words request ⌝ }
+// The two lengths of a place. Both are looked at, so that the compiler asks for four places at once.
+fn lengths_ok(words: u32, request: u32) -> bool
+    ensures { λ r. ⌜ r ≡ (wordsOk words && wordsOk request) ⌝ }
 {
     let answered = words_ok(words);
     let asked = words_ok(request);
-    (back >= held) | (answered & asked)
+    answered & asked
+}
+
+// Check 1 of a place, whose message is so far back from the newest.
+fn place_ok(held: u32, back: u32, words: u32, request: u32) -> bool
+    ensures { λ r. ⌜ r ≡ placeOk held back words request ⌝ }
+{
+    let both = lengths_ok(words, request);
+    (back >= held) | both
+}
+
+// Check 1 of the four places where all are held: how far back each one's message is does not matter.
+fn all_ok(tags: TagRecord) -> bool
+    requires { ⌜ tags .held ≡ places ⌝ }
+    ensures { λ r. ⌜ r ≡ placesOk tags ⌝ }
+{
+    let words = tags.words;
+    let request = tags.request;
+    let a = lengths_ok(words[0], request[0]);
+    let b = lengths_ok(words[1], request[1]);
+    let c = lengths_ok(words[2], request[2]);
+    let d = lengths_ok(words[3], request[3]);
+    a & b & c & d
 }
 
 // Check 1 of the four places.
@@ -90,6 +112,9 @@ fn places_ok(tags: TagRecord) -> bool
     ensures { λ r. ⌜ r ≡ placesOk tags ⌝ }
 {
     let held = tags.held;
+    if held == TagRecord::PLACES {
+        return all_ok(tags);
+    }
     let newest = tags.tag;
     let words = tags.words;
     let request = tags.request;

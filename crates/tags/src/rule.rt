@@ -39,7 +39,8 @@ fn expected(tags: TagRecord, tag: u32) -> bool
     tag == header::next_tag(tags.tag)
 }
 
-// The verdict on a well-formed message of this byte 0, by its tag.
+// The verdict on a well-formed message of this byte 0, by its tag. No tag is both new and held, so that a new one, the
+// most common, is asked for first.
 pub fn rule(tags: TagRecord, byte0: u32) -> Verdict
     requires { ⌜ recordOk tags ≡ true ⌝ }
     ensures { λ r. ⌜ r ≡ ruleOf tags byte0 ⌝ }
@@ -48,11 +49,11 @@ pub fn rule(tags: TagRecord, byte0: u32) -> Verdict
         return Verdict::Discovery;
     }
     let tag = header::tag(byte0);
-    if holds(tags, tag) {
-        return Verdict::Repeat(tag);
-    }
     if expected(tags, tag) {
         return Verdict::New;
+    }
+    if holds(tags, tag) {
+        return Verdict::Repeat(tag);
     }
     Verdict::Refused(Refusal::of(Refusal::OUT_OF_STEP))
 }

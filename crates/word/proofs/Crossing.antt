@@ -66,6 +66,13 @@ front-bytes (suc n) (a ∷ []) h k = absurd (omega arith)
 front-bytes (suc n) (a ∷ b ∷ []) h k = absurd (omega arith)
 front-bytes (suc n) (a ∷ b ∷ c ∷ []) h k = absurd (omega arith)
 
+-- words of the bytes b that are put in front of others: b's first bytes stand there
+pub words-in-front :
+    (out b : List ℕ) (n : ℕ) {ws t : List ℕ} → Bytes b → 4 * n ≤ length b → ws ≡ take n (wordsOf b) → t ≡ putWords out 0 ws
+    → t ≡ put out 0 (take (4 * n) b)
+unfolding putWords
+words-in-front out b n h k e f = f ∙ ap (putWords out 0) e ∙ ap (put out 0) (front-bytes n b h k)
+
 -- the words of bytes are words, a quarter as many
 pub words-below : (l : List ℕ) → Bytes l → Words (wordsOf l)
 unfolding wordsOf Below

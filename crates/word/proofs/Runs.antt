@@ -54,6 +54,16 @@ pub put-front : (l s : List ℕ) → take (length s) (put l 0 s) ≡ s
 unfolding put
 put-front l s = take-at s (drop (0 + length s) l) (length s) refl
 
+-- a list's first elements, read one by one
+pub first-two : (s : List ℕ) → 2 ≤ length s → getD s 0 0 ∷ getD s 1 0 ∷ [] ≡ take 2 s
+first-two [] h = absurd (omega arith)
+first-two (x ∷ []) h = absurd (omega arith)
+first-two (x ∷ y ∷ s) h = refl
+
+pub first-three : (s : List ℕ) → 3 ≤ length s → getD s 0 0 ∷ getD s 1 0 ∷ getD s 2 0 ∷ [] ≡ take 3 s
+first-three [] h = absurd (omega arith)
+first-three (x ∷ s) h = ap (λ (l : List ℕ). x ∷ l) (first-two s (omega arith))
+
 -- a turn of a loop that puts the elements of s one by one
 module _ (l : List ℕ) (at : ℕ) (s : List ℕ) (i : ℕ) (h : i < length s) (k : at + i < length l) where
   pub put-next : put (put l at (take i s)) (at + i) (getD s i 0 ∷ []) ≡ put l at (take (i + 1) s)

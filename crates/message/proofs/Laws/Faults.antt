@@ -12,7 +12,8 @@ use lib.Seq.{getD-drop}
 use Rattle.header.specs.declared.refusal.Refusal.{Refusal}
 use Rattle.header.specs.declared.Kind.{Kind}
 use Rattle.header.specs.declared.Kind.the-variants.{Nop, Write, Read as Reads, Response}
-use Rattle.header.specs.Header.{kindOf, wideOf, byte0Of, byte1Of, firstField, lastField, countOf, reservedOf, lastOf, bit, addressWords, bodyWords, headOf, endsOk}
+use Rattle.header.specs.Header.{kindOf, wideOf, byte0Of, byte1Of, firstField, lastField, countOf, reservedOf, lastOf, bit}
+use Rattle.header.specs.Header.{addressWords, dataWords, bodyWords, headOf, endsOk}
 use Rattle.header.specs.Refusal.{refusedAt}
 use Rattle.header.proofs.Laws.Refusal.{passed}
 use Rattle.message.specs.declared.walk.Step.the-variants.{Read, Refused as RefusedStep}
@@ -95,6 +96,24 @@ short-faultless byte0 h left kind same bits fits ends =
             ends = rw body ends;
           }),
     )
+
+-- a read of some words, the header's bits 31:28 being 8: no fault, if its address and nothing else follows it
+pub read-faultless : (byte0 h left : ℕ) → kindOf byte0 ≡ Reads → byte0Of h ≡ byte0 → h / 268435456 ≡ 8 → (countOf h ≡ 0 → ⊥)
+    → left ≡ addressWords byte0 → (address : ℕ) → faultOf byte0 h left address ≡ 0
+read-faultless byte0 h left kind same bits some ends address =
+    let last : lastOf h ≡ true = rw (sym (div-div-eq-div-mul h 268435456 8), bits) in
+    let none : dataWords (kindOf byte0) (countOf h) ≡ 0 = rw kind in
+    let body : bodyWords byte0 (countOf h) ≡ left = omega (arith, none, ends) in
+    faultless byte0 h left address
+    (record {
+      same = same;
+      asking = rw kind;
+      clear = rw bits;
+      counted = rw kind (le-leb 1 (countOf h) (omega (arith, some)));
+      enabled = rw kind;
+      within = rw body (omega arith);
+      ends = rw (last, body) (eq-eqb left left refl);
+    })
 
 -- a step by its header's fault
 pub step-read : (byte0 at h left address : ℕ) → faultOf byte0 h left address ≡ 0 → stepOn byte0 at h left address ≡ Read (headOf byte0 h)

@@ -74,6 +74,11 @@ one-of-four P a b c d (suc (suc zero)) h = c
 one-of-four P a b c d (suc (suc (suc zero))) h = d
 one-of-four P a b c d (suc (suc (suc (suc p)))) h = absurd (omega arith)
 
+-- of a place that is held both lengths are asked for
+pub place-held : (held back words request : ℕ) → back < held → placeOk held back words request ≡ (wordsOk words && wordsOk request)
+unfolding placeOk
+place-held held back words request h = rw (lt-leb held back h)
+
 -- a record that is let by, where it is not fresh
 pub record Held (tags : TagRecord) : Type 0 where
   pub few : tags .held ≤ places
@@ -245,6 +250,18 @@ expected-fresh tags tag f = rw f
 pub expected-by : (tags : TagRecord) (tag : ℕ) → isFresh tags ≡ false → expected tags tag ≡ eqb tag (nextTag (tags .tag))
 unfolding expected
 expected-by tags tag f = rw f
+
+-- a new tag is not held: it is fifteen back from the newest
+pub new-not-held : (tags : TagRecord) (tag : ℕ) → recordOk tags ≡ true → expected tags tag ≡ true → holds tags tag ≡ false
+unfolding holds
+new-not-held tags tag ok e = go (isFresh tags) refl
+  where
+    go : (f : Bool) → isFresh tags ≡ f → cond f false (ltb (back (tags .tag) tag) (tags .held)) ≡ false
+    go true f = refl
+    go false f =
+        let r = held-room tags ok f in
+        let n = eqb-true tag (nextTag (tags .tag)) (sym (expected-by tags tag f) ∙ e) in
+        le-ltb (back (tags .tag) tag) (tags .held) (omega (arith, r .few, r .tag, n))
 
 -- word 1 of the advertisement
 pub mark-fresh : (tags : TagRecord) → isFresh tags ≡ true → markOf tags ≡ 0

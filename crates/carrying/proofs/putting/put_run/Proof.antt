@@ -24,11 +24,11 @@ returns c =
     let b = c .before .before .before .before in
     puts-single _ (b .before .before .before .before .if1 .taken) (b .put-both .ensures)
 
-put-words-requires : tie.Need-put-words-requires
-put-words-requires c κs = search needs
-
 keep-words-requires : tie.Need-keep-words-requires
 keep-words-requires c κs = search needs
+
+put-words-requires : tie.Need-put-words-requires
+put-words-requires c κs = search needs
 
 same-length-3 : tie.Need-same-length-3
 same-length-3 c = search needs
@@ -48,8 +48,8 @@ put-run-spec =
     same-length
     same-length-2
     returns
-    put-words-requires
     keep-words-requires
+    put-words-requires
     same-length-3
     same-length-4
     returns-2)

@@ -1,4 +1,4 @@
--- `message::walk::step_at` meets its contract: no header, a short write, the fault, or the header. Assumes nothing.
+-- `message::walk::step_at` meets its contract: no header, a short write, a last read, the fault, or the header. Assumes nothing.
 use Prim.Native.Nat.{_+_}
 use borrow.Author.Tests.{lt-ltb}
 use lib.ListN.{drop}
@@ -55,24 +55,41 @@ returns-2 c =
     rw (length-wordsOf (a .datagram .now), ← w .word-at .ensures, lt-ltb _ _ (w .before .if1 .left), step-read _ _ _ _ _ (s .2 address))
     (simp (s .0, s .1, c .before .before .byte1 .ensures .0, c .before .address-words .ensures .0, c .last .ensures))
 
-fault-requires : tie.Need-fault-requires
-fault-requires c κs = search needs
-
-returns-3 : tie.Need-returns-3
-unfolding stepAt stepOn
-returns-3 c =
-    let w = c .before .before .before .before in
-    search (tests, length-wordsOf, ← w .word-at .ensures, ← c .before .fault .ensures)
+last-read-requires : tie.Need-last-read-requires
+last-read-requires c κs = search needs
 
 head-of-requires : tie.Need-head-of-requires
 head-of-requires c κs = search needs
 
+returns-3 : tie.Need-returns-3
+unfolding stepAt
+returns-3 c =
+    let t = c .before in
+    let w = t .before .before .before .before in
+    let a = w .before .before .before .args in
+    let address = addressFrom (addressWords (a .byte0)) (drop (a .at + 1) (wordsOf (a .datagram .now))) in
+    let none = t .before .last-read .ensures (t .if3 .taken) address in
+    rw (length-wordsOf (a .datagram .now), ← w .word-at .ensures, lt-ltb _ _ (w .before .if1 .left), step-read _ _ _ _ _ none)
+    (simp (c .head-of .ensures))
+
+fault-requires : tie.Need-fault-requires
+fault-requires c κs = search needs
+
 returns-4 : tie.Need-returns-4
 unfolding stepAt stepOn
 returns-4 c =
+    let w = c .before .before .before .before .before .before in
+    search (tests, length-wordsOf, ← w .word-at .ensures, ← c .before .fault .ensures)
+
+head-of-requires-2 : tie.Need-head-of-requires-2
+head-of-requires-2 c κs = search needs
+
+returns-5 : tie.Need-returns-5
+unfolding stepAt stepOn
+returns-5 c =
     let f = c .before .before in
-    let w = f .before .before .before in
-    search (tests, length-wordsOf, ← w .word-at .ensures, ← f .fault .ensures, c .head-of .ensures)
+    let w = f .before .before .before .before .before in
+    search (tests, length-wordsOf, ← w .word-at .ensures, ← f .fault .ensures, c .head-of2 .ensures)
 
 pub step-at-spec : {M : Type 1} → statement M
 step-at-spec =
@@ -89,7 +106,10 @@ step-at-spec =
     add-t15
     last-requires
     returns-2
-    fault-requires
-    returns-3
+    last-read-requires
     head-of-requires
-    returns-4)
+    returns-3
+    fault-requires
+    returns-4
+    head-of-requires-2
+    returns-5)

@@ -1,8 +1,14 @@
--- `tags::record::places_ok` meets its contract: place by place. Assumes nothing.
+-- `tags::record::places_ok` meets its contract: all at once, or place by place. Assumes nothing.
 use Rattle.tags.specs.Record.{placesOk}
 use borrow.Author.Needs.{needs}
 use Rattle.tags.proofs.record.places_ok.Statement.{statement}
 use Rattle.tags.proofs.record.places_ok.Tie as tie
+
+all-ok-requires : tie.Need-all-ok-requires
+all-ok-requires c κs = search needs
+
+returns : tie.Need-returns
+returns c = search needs
 
 add-place-ok : tie.Need-add-place-ok
 add-place-ok c = search needs
@@ -52,9 +58,9 @@ array-read-place-ok-8 c = search needs
 place-ok-requires-4 : tie.Need-place-ok-requires-4
 place-ok-requires-4 c κs = search needs
 
-returns : tie.Need-returns
+returns-2 : tie.Need-returns-2
 unfolding placesOk
-returns c =
+returns-2 c =
     let g = c .before in
     let f = g .before in
     rw (f .before .place-ok .ensures, f .place-ok2 .ensures, g .place-ok3 .ensures, c .place-ok4 .ensures)
@@ -63,6 +69,8 @@ pub places-ok-spec : {M : Type 1} → statement M
 places-ok-spec =
     tie.close
     (tie.spec
+    all-ok-requires
+    returns
     add-place-ok
     array-read-place-ok
     array-read-place-ok-2
@@ -79,4 +87,4 @@ places-ok-spec =
     array-read-place-ok-7
     array-read-place-ok-8
     place-ok-requires-4
-    returns)
+    returns-2)

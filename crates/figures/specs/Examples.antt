@@ -1,4 +1,4 @@
--- Whole calls besides the bench sheet's, from bytes, and what is lent in figures. `proofs/Laws/Benched.antt` computes
+-- Whole calls besides the bench sheet's, from bytes, and what is lent in figures. `proofs/Benched.antt` computes
 -- them. Assumes nothing.
 use Prim.Native.Nat.{ℕ, _+_, _-_}
 use mathlib.Core.Path.{_≡_}
@@ -10,8 +10,10 @@ use Rattle.header.specs.Refusal.{refusal}
 use Rattle.tags.specs.declared.record.TagRecord.{TagRecord}
 use Rattle.tags.specs.Record.{freshRecord}
 use Rattle.tags.specs.Examples.{holding, all}
 use Rattle.completer.specs.Controller.{lent, After, left}
-use Rattle.completer.specs.BenchSheet.{benchMemory, noneSent, benchStart, benchFresh, benchOne, memoryWith, holdingOne, holdingFeed, Line, line, plays, writeFeed, writeOther, readNext, every}
+use Rattle.figures.specs.BenchSheet.{benchMemory, noneSent, benchStart, benchFresh, benchOne, memoryWith}
+use Rattle.figures.specs.BenchSheet.{holdingOne, holdingFeed, Line, line, plays, every}
+use Rattle.figures.specs.BenchSheet.{writeFeed, writeOther, readNext}
 
 -- memory with these four words at its front
 abbrev pub memoryFour : ℕ → ℕ → ℕ → ℕ → List ℕ

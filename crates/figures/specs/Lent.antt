@@ -1,5 +1,5 @@
 -- What calls leave in what is lent, which lengths are let by, and where the places stand, in figures.
--- `proofs/Laws/Benched.antt` computes them. Assumes nothing.
+-- `proofs/Benched.antt` computes them. Assumes nothing.
 use Prim.Native.Nat.{ℕ, zero, suc, _+_, _-_, _*_}
 use mathlib.Core.Path.{_≡_}
 use mathlib.Core.Bool.{Bool, true, false, _&&_}
@@ -12,10 +12,11 @@ use Rattle.tags.specs.declared.rule.Verdict.{Verdict}
 use Rattle.tags.specs.declared.rule.Verdict.the-variants.{Refused, New, Repeat}
 use Rattle.tags.specs.Record.{freshRecord}
 use Rattle.tags.specs.Examples.{holding, all}
 use Rattle.completer.specs.Controller.{lent, After, left}
 use Rattle.completer.specs.Verdict.{lentOk, verdictBy}
-use Rattle.completer.specs.BenchSheet.{benchMemory, benchOne, holdingOne, plays, sameRecord, writeFeed, writeOther, readNext, writeTwo, readThree}
-use Rattle.completer.specs.Examples.{readTwo, findTwo, pastEnd, readAs, acrossTags, benchAcross}
+use Rattle.figures.specs.BenchSheet.{benchMemory, benchOne, holdingOne, plays, sameRecord}
+use Rattle.figures.specs.BenchSheet.{writeFeed, writeOther, readNext, writeTwo, readThree}
+use Rattle.figures.specs.Examples.{readTwo, findTwo, pastEnd, readAs, acrossTags, benchAcross}
 
 -- datagrams in turn from a fresh record over EE everywhere, and after the last one the first four words of each place
 -- of the stored answers and of the kept requests, and of the output

@@ -1,4 +1,4 @@
--- The bench sheet: its marked lines as one statement over one list, from bytes. `proofs/Laws/Benched.antt` computes it.
+-- The bench sheet: its marked lines as one statement over one list, from bytes. `proofs/Benched.antt` computes it.
 -- Assumes nothing.
 use Prim.Native.Nat.{ℕ, _-_, _*_, _%_}
 use mathlib.Core.Path.{_≡_}

@@ -1,0 +1,2 @@
+-- What computes it.
+pub mod Benched
