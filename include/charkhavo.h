@@ -238,7 +238,11 @@ CharkhavoRefusal charkhavo_add(uint8_t *output, uint64_t output_length,
 CharkhavoRefusal charkhavo_close(uint8_t *output, uint64_t output_length,
                                  CharkhavoBuilding *building);
 
-/* The fixed discovery, which asks a controller for its newest tag. */
+/* The fixed discovery, which asks a controller for its newest tag. So a loader begins after a
+   restart, its own or the controller's: throw away everything that was sent or received before, so
+   that none of it arrives any more at either end (empty the line); send this until
+   charkhavo_discovered accepts the answer to it (an answer that it refuses is dropped); and begin
+   the list, with new tags, from its first message. */
 typedef struct CharkhavoDiscovery {
     uint8_t bytes[12];
 } CharkhavoDiscovery;
@@ -277,7 +281,12 @@ CharkhavoSender charkhavo_fresh(void);
 
 /* The sender that an answer to the fixed discovery makes: its next tag is the newest held plus 1,
    modulo 16, or 0 if none is held. Refusals: 32, 33, then 34 and 35 at each header, 38, with a
-   sender of next tag 16, which every later call refuses by 37. */
+   sender of next tag 16, which every later call refuses by 37.
+
+   Give it only the answer to that very discovery, sent since the restart and before any message. The
+   answer to somebody else's discovery that reads two words with tag 0, at an address of 32 bits,
+   looks the same: a word of memory would be taken for a tag. So everybody else on the line, the
+   laptop, sends discoveries with another tag than 0: their answers are refused, 33. */
 CharkhavoMoved charkhavo_discovered(const uint8_t *answer, uint64_t answer_length);
 
 /* Offers a message, which then waits; it has the tag after the newest that waits, next + waiting

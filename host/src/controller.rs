@@ -21,6 +21,12 @@ impl Controller {
         Controller { stored: [0; STORED], kept: [0; KEPT], output: [0; BYTES], tags }
     }
 
+    /// Comes up fresh, as after a reset: it holds no message any more. Its loader starts anew too,
+    /// and nothing that was sent before may arrive.
+    pub fn reset(&mut self) {
+        self.tags = TagRecord::FRESH;
+    }
+
     /// The tag of the newest message; none while fresh.
     pub fn tag(&self) -> Option<u32> {
         (self.tags.held != 0).then_some(self.tags.tag)

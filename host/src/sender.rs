@@ -20,12 +20,15 @@ impl Sender {
         Sender::with(ffi::fresh())
     }
 
-    /// The datagram that asks a controller for its newest tag.
+    /// The fixed discovery, which asks a controller for its newest tag. After a restart of either
+    /// end throw away everything that was sent or received before, and send this first.
     pub fn discovery() -> [u8; 12] {
         ffi::discovery()
     }
 
-    /// The sender that an answer to that datagram makes: 32 to 35, 38.
+    /// The sender that an answer to that datagram makes: 32 to 35, 38. Give it only the answer to
+    /// that very discovery: the one to somebody else's read of two words by a discovery with tag 0
+    /// looks the same. All others send discoveries with another tag than 0; their answers are 33.
     pub fn discovered(answer: &[u8]) -> Result<Sender, Refusal> {
         let moved = ffi::discovered(answer);
         moved.refusal.result()?;

@@ -55,6 +55,19 @@ fn a_controller_serves_repeats_and_refuses() {
 /// The fault that put us here: a loader that restarts and counts from nought. Its write was taken
 /// for a repeat, answered OK and not stored; now it is refused, and one that asks gets through.
 #[test]
+fn a_controller_comes_up_fresh() {
+    let mut controller = Controller::fresh();
+    let mut memory = [0; 8];
+    controller.serve(&mut memory, &bytes_of(&A)).unwrap();
+    memory[1] = 5;
+    controller.reset();
+    assert_eq!((controller.tag(), memory[1]), (None, 5));
+    assert_eq!(controller.serve(&mut memory, &bytes_of(&[0x8001_0F11, 4, 6])), refused(11));
+    controller.serve(&mut memory, &bytes_of(&A)).unwrap();
+    assert_eq!((controller.tag(), memory[1]), (Some(0), 0xFEED_C0DE), "new, not a repeat");
+}
+
+#[test]
 fn a_loader_that_counts_from_nought_is_refused() {
     let (mut controller, mut memory) = (Controller::fresh(), [0; 8]);
     controller.serve(&mut memory, &bytes_of(&A)).unwrap();

@@ -4,17 +4,12 @@
 // between. The fifth is offered again when two have ended, and the last answer ends three. Five rounds, 25 messages:
 // tags go past 15, once with four in flight. Prints what each call gave, the outcomes in order of tag, and the memory
 // at the end.
-use completer::serving;
-use completer::serving::Served;
-use header::limits;
-use header::refusal::Refusal;
-use initiator::outcome;
-use initiator::sender;
+use channel_run::Bytes;
+use channel_run::controller;
+use channel_run::controller::Controller;
+use channel_run::loader;
 use initiator::sender::Sender;
-use initiator::sender::Taken;
 use message::discovery;
-use messages::Bytes;
-use tags::record::TagRecord;
 
 mod messages;
 mod round;
@@ -22,92 +17,21 @@ mod round;
 // Five rounds.
 const STEPS: u32 = 5 * round::STEPS;
 
-struct Controller {
-    memory: [u32; 8],
-    stored: [u32; TagRecord::STORED],
-    kept: [u8; TagRecord::KEPT],
-    tags: TagRecord,
-}
-
-// The controller after an arrival, and its answer.
-struct Arrived {
-    controller: Controller,
-    answer: Bytes,
-}
-
-// The two ends, the last answer to a message of each place, and how many messages have ended,
+// The two ends, the controller's memory, the last answer to a message of each place, and how many messages have ended,
 // modulo 256.
 struct Ends {
     sender: Sender,
     controller: Controller,
+    memory: [u32; 8],
     answers: [Bytes; 4],
     done: u8,
 }
 
-fn say_served(served: Served) {
-    let refusal = served.refusal;
-    show::number(b": refusal ", refusal.number as u64);
-    show::number(b", bytes ", served.sent as u64);
-    show::say(b":");
-}
-
-// A refusal, and the sender then: its next tag, how many wait, and which of the three younger ones are answered.
-fn say_sender(refusal: Refusal, s: Sender) {
-    show::number(b": refusal ", refusal.number as u64);
-    show::number(b", next ", s.next as u64);
-    show::number(b", waiting ", s.waiting as u64);
-    show::number(b", answered ", s.second as u64);
-    show::number(b" ", s.third as u64);
-    show::number(b" ", s.fourth as u64);
-}
-
 // Message i is offered, and sent; that send is lost.
-fn offer(s: Sender, i: u32) -> Sender {
-    let message = messages::compose(i);
-    let bytes = message.bytes;
-    let lent = show::front(&bytes, message.n);
-    let moved = sender::offer(s, lent);
-    let then = moved.sender;
-    say_sender(moved.refusal, then);
-    show::say(b", sends");
-    show::bytes(sender::send(then, lent));
-    then
-}
-
-// The same, in the night.
 fn offers(mut ends: Ends, i: u32) -> Ends {
-    let s = offer(ends.sender, i);
+    let s = loader::offer(ends.sender, messages::compose(i));
     ends.sender = s;
     ends
-}
-
-// A datagram comes to the controller.
-fn serves(c: Controller, datagram: &[u8]) -> Arrived {
-    let mut memory = c.memory;
-    let mut stored = c.stored;
-    let mut kept = c.kept;
-    let mut bytes = [0u8; limits::LIMIT_BYTES];
-    let served = serving::serve(
-        &mut memory,
-        &mut stored,
-        &mut kept,
-        &mut bytes,
-        c.tags,
-        datagram,
-    );
-    let tags = served.tags;
-    let n = served.sent;
-    say_served(served);
-    show::bytes(show::front(&bytes, n));
-    Arrived {
-        controller: Controller {
-            memory,
-            stored,
-            kept,
-            tags,
-        },
-        answer: Bytes { bytes, n },
-    }
 }
 
 // The answer to message i.
@@ -125,8 +49,15 @@ fn with_answer(answers: [Bytes; 4], i: u32, answer: Bytes) -> [Bytes; 4] {
 }
 
 // A datagram of message i comes to the controller.
-fn arrives(mut ends: Ends, i: u32, datagram: &[u8]) -> Ends {
-    let arrived = serves(ends.controller, datagram);
+fn arrives(mut ends: Ends, i: u32, datagram: Bytes) -> Ends {
+    let bytes = datagram.bytes;
+    let mut memory = ends.memory;
+    let arrived = controller::serves(
+        &mut memory,
+        ends.controller,
+        show::front(&bytes, datagram.n),
+    );
+    ends.memory = memory;
     let controller = arrived.controller;
     ends.controller = controller;
     let before = ends.answers;
@@ -137,31 +68,13 @@ fn arrives(mut ends: Ends, i: u32, datagram: &[u8]) -> Ends {
 
 // Message i, which waits, is sent and arrives.
 fn sends(ends: Ends, i: u32) -> Ends {
-    let message = messages::compose(i);
-    let bytes = message.bytes;
-    let datagram = sender::send(ends.sender, show::front(&bytes, message.n));
-    arrives(ends, i, datagram)
-}
-
-// What was sent of message i comes late.
-fn late(ends: Ends, i: u32) -> Ends {
-    let message = messages::compose(i);
-    let bytes = message.bytes;
-    arrives(ends, i, show::front(&bytes, message.n))
+    let sent = loader::send(ends.sender, messages::compose(i));
+    arrives(ends, i, sent)
 }
 
 // The outcome of message i.
 fn tell(answers: [Bytes; 4], i: u32) {
-    let message = messages::compose(i);
-    let bytes = message.bytes;
-    let request = show::front(&bytes, message.n);
-    let answer = answer_of(answers, i);
-    let back = answer.bytes;
-    let answer = show::front(&back, answer.n);
-    show::number(b"outcome ", i as u64);
-    show::number(b": answered ", outcome::answered(request, answer) as u64);
-    show::say(b", data");
-    show::bytes(outcome::read_data(request, answer, 0));
+    loader::tell(i, messages::compose(i), answer_of(answers, i));
 }
 
 // The outcomes of the messages that ended, the oldest first.
@@ -173,28 +86,9 @@ fn tell_all(answers: [Bytes; 4], first: u8, ended: u8) {
     }
 }
 
-// An answer comes to the sender, to which message `lent` is lent.
-fn take(s: Sender, lent: u32, answer: Bytes) -> Taken {
-    let message = messages::compose(lent);
-    let bytes = message.bytes;
-    let back = answer.bytes;
-    sender::take(
-        s,
-        show::front(&bytes, message.n),
-        show::front(&back, answer.n),
-    )
-}
-
-fn say_taken(taken: Taken) {
-    say_sender(taken.refusal, taken.sender);
-    show::number(b", ended ", taken.ended as u64);
-    show::say(b"\n");
-}
-
-// The same, in the night, and the outcomes of the messages that end.
+// An answer comes to the sender, to which message `lent` is lent, and the outcomes of the messages that end.
 fn takes(mut ends: Ends, lent: u32, answer: Bytes) -> Ends {
-    let taken = take(ends.sender, lent, answer);
-    say_taken(taken);
+    let taken = loader::take(ends.sender, messages::compose(lent), answer);
     let answers = ends.answers;
     tell_all(answers, ends.done, taken.ended);
     let s = taken.sender;
@@ -212,7 +106,8 @@ fn comes_back(ends: Ends, lent: u32, i: u32) -> Ends {
 // A discovery comes, and its answer comes to the sender.
 fn discovers(mut ends: Ends, lent: u32) -> Ends {
     let asks = discovery::bytes();
-    let arrived = serves(ends.controller, &asks);
+    let mut memory = ends.memory;
+    let arrived = controller::serves(&mut memory, ends.controller, &asks);
     let controller = arrived.controller;
     ends.controller = controller;
     show::say(b"its answer");
@@ -226,7 +121,7 @@ fn play(ends: Ends, step: u32, i: u32) -> Ends {
         0..=4 | 24 => offers(ends, i),
         5 | 23 => comes_back(ends, oldest, i),
         6..=15 | 25 => sends(ends, i),
-        16..=17 => late(ends, i),
+        16..=17 => arrives(ends, i, messages::compose(i)),
         18 => discovers(ends, oldest),
         _ => comes_back(ends, i, i),
     }
@@ -247,16 +142,9 @@ fn step(ends: Ends, t: u32) -> Ends {
 fn dusk() -> Ends {
     Ends {
         sender: Sender::fresh(),
-        controller: Controller {
-            memory: [0; 8],
-            stored: [0; TagRecord::STORED],
-            kept: [0; TagRecord::KEPT],
-            tags: TagRecord::fresh(),
-        },
-        answers: [Bytes {
-            bytes: [0; limits::LIMIT_BYTES],
-            n: 0,
-        }; 4],
+        controller: Controller::fresh(0),
+        memory: [0; 8],
+        answers: [Bytes::none(); 4],
         done: 0,
     }
 }
@@ -274,8 +162,7 @@ fn night() -> Ends {
 
 fn main() {
     let ends = night();
-    let c = ends.controller;
-    let memory = c.memory;
+    let memory = ends.memory;
     show::say(b"memory");
     show::words(&memory);
 }

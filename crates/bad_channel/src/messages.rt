@@ -1,17 +1,6 @@
 // The messages of the night, by their number.
 use building::asked::Asked;
-use building::build;
-use header::limits;
-
-const WRITE: u32 = 1;
-
-const READ: u32 = 2;
-
-// A message or an answer: the first n of some bytes.
-pub(crate) struct Bytes {
-    pub(crate) bytes: [u8; limits::LIMIT_BYTES],
-    pub(crate) n: usize,
-}
+use channel_run::Bytes;
 
 // Message i asks: two of three write a word that says their number, the third reads the word before.
 fn asked(i: u32) -> Asked {
@@ -25,16 +14,10 @@ fn asked(i: u32) -> Asked {
 }
 
 pub(crate) fn compose(i: u32) -> Bytes {
-    let mut bytes = [0u8; limits::LIMIT_BYTES];
-    let kind = if i % 3 == 2 { READ } else { WRITE };
-    let begun = build::begin(&bytes, kind, i % 16, false, false);
-    let words = [3235774464 + i % 256];
-    let added = build::add(&mut bytes, begun.building, asked(i), &words);
-    let closed = build::close(&mut bytes, added.building);
-    let b = closed.building;
-    if b.words > limits::LIMIT {
-        return Bytes { bytes, n: 0 };
-    }
-    let n = 4 * b.words;
-    Bytes { bytes, n }
+    let kind = if i % 3 == 2 {
+        channel_run::READ
+    } else {
+        channel_run::WRITE
+    };
+    channel_run::compose(kind, i % 16, asked(i), 3235774464 + i % 256)
 }

@@ -20,11 +20,12 @@ use Rattle.answer.specs.Answer.{Answered, answerByte, judge}
 use Rattle.answer.proofs.Laws.Heads.{answer-tag, answer-discovery}
 use Rattle.answer.proofs.Laws.Accepts.{judge-encoded, other-byte}
 use Rattle.answer.proofs.Laws.Looking.{judge-long}
-use Rattle.carrying.specs.Answers.{failed}
+use Rattle.carrying.specs.Answers.{failed, answerTo}
 use Rattle.initiator.specs.Outcome.{judgedBy}
 use Rattle.initiator.proofs.Laws.Outcomes.{judged-plain, ending-first, ending-next, data-first, data-next}
-use Rattle.exchange.specs.Outcomes.{Outcome, each, toldAt, told, resultOf, resultsIn}
-use Rattle.exchange.specs.Sight.{Plain, Encodes, Answers}
+use Rattle.exchange.specs.Outcomes.{Outcome, each, toldAt, told, resultOf, resultsIn, outcomeOver}
+use Rattle.exchange.specs.Terms.{Plain}
+use Rattle.exchange.specs.Sight.{Encodes, Answers}
 
 -- a plain message asks for its request, which fits; its first byte is byte 0
 module _ {d : List ℕ} (p : Plain d) where
@@ -87,6 +88,12 @@ result-at kind [] zero = refl
 result-at kind [] (suc k) = refl
 result-at kind (a ∷ more) zero = refl
 result-at kind (a ∷ more) (suc k) = result-at kind more k
+
+-- the outcome of carrying out a message is that of its request
+pub outcome-by : (memory message : List ℕ)
+    → outcomeOver memory message ≡ resultsIn (kindOf (requestOf message .byte0)) (answerTo (requestOf message) 0 memory)
+unfolding outcomeOver
+outcome-by memory message = refl
 
 -- command by command, the outcome functions tell what the answers say
 each-told : (message : List ℕ) (items : List Answered) → each (length items) (toldAt message (Means items)) ≡ resultsIn (kindOf (getD message 0 0)) items

@@ -39,9 +39,9 @@ use Rattle.completer.proofs.Laws.Called.{kept-self, new-stores, others-stay, re
 use Rattle.once.specs.Tags.{tagsIn, nextTag, Unlike, Carried, Kept}
 use Rattle.exchange.specs.Outcomes.{each, outcomeOver}
 use Rattle.exchange.specs.Ends.{ends, sentIn}
-use Rattle.exchange.specs.Terms.{Lendable, findsOnly, Finds, terms, Sound}
+use Rattle.exchange.specs.Terms.{Plain, Lendable, findsOnly, Finds, terms, Sound}
 use Rattle.exchange.specs.Promise.{window}
-use Rattle.exchange.specs.Sight.{Plain, Encodes, Answers, Strange, storedAt, storedBy, sight}
+use Rattle.exchange.specs.Sight.{Encodes, Answers, Strange, storedAt, storedBy, sight}
 use Rattle.exchange.proofs.Codec.{asked-is, asked-fits, first-is}
 use Rattle.exchange.proofs.Each.{each-long, each-in, each-same, each-front, each-all}
 use Rattle.exchange.proofs.Going.{mark-free, allowed-is, serving-is, filled, next-held, stored-held, is-again, is-new, is-late, items, words, encodes, short, some-words}

@@ -87,7 +87,7 @@ begun = record { sound = controller-sound; nothing = refl; pair = inl (record { 
 pub output-long : Lendable output
 output-long = long limitBytes 170
 
-longer-long : Lendable longer
+pub longer-long : Lendable longer
 longer-long = omega (arith, long (limitBytes + 3) 85)
 
 underway-lends : Lendable output → Lendable longer → Lends underway

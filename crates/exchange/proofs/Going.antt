@@ -37,8 +37,8 @@ use Rattle.completer.proofs.Laws.Called.{lent-fits, called-by, answer-by}
 use Rattle.initiator.specs.Outcome.{dataOf}
 use Rattle.once.specs.Tags.{tagsIn, nextTag, Unlike, Back}
 use Rattle.exchange.specs.Outcomes.{each, resultsIn}
-use Rattle.exchange.specs.Terms.{Lendable, Sound}
-use Rattle.exchange.specs.Sight.{Plain, Encodes, storedAt, storedBy}
+use Rattle.exchange.specs.Terms.{Plain, Lendable, Sound}
+use Rattle.exchange.specs.Sight.{Encodes, storedAt, storedBy}
 use Rattle.exchange.proofs.Each.{each-at, each-in}
 use Rattle.exchange.proofs.Codec.{first-is, encodes-judged, judged-headed}
 

@@ -21,8 +21,8 @@ use Rattle.completer.specs.Verdict.{judged, asKept, heldTo}
 use Rattle.completer.specs.Serving.{afterBy, after}
 use Rattle.completer.specs.Controller.{Controller, withMemory, requestIn, After}
 use Rattle.once.specs.Tags.{tagsIn, nextTag}
-use Rattle.exchange.specs.Terms.{Lendable, Sound}
-use Rattle.exchange.specs.Sight.{Plain, storedBy}
+use Rattle.exchange.specs.Terms.{Plain, Lendable, Sound}
+use Rattle.exchange.specs.Sight.{storedBy}
 use Rattle.exchange.proofs.Codec.{first-is}
 use Rattle.exchange.proofs.Going.{serving-is, expected-is}
 use Rattle.exchange.proofs.Controller.{sound-new}

@@ -23,9 +23,9 @@ use Rattle.once.specs.Tags.{Slot, asked, answered, messageIn, mark, Waits, Stil
 use Rattle.once.proofs.Lists.{inside}
 use Rattle.exchange.specs.Outcomes.{Outcome, told}
 use Rattle.exchange.specs.Ends.{Waiting, Loader, ends, offeredIn, handed, sendAt}
-use Rattle.exchange.specs.Terms.{terms, Offers}
+use Rattle.exchange.specs.Terms.{Plain, terms, Offers}
 use Rattle.exchange.specs.Promise.{window}
-use Rattle.exchange.specs.Sight.{Plain, seen, nextBy, sight}
+use Rattle.exchange.specs.Sight.{seen, nextBy, sight}
 use Rattle.exchange.proofs.Codec.{first-clear}
 use Rattle.exchange.proofs.Waiting.{answeredIn, Agree, to-agree, agree-next, next-agreed, one-agrees, seen-length, seen-more, asked-lent, asked-seen, answered-seen}
 

@@ -69,11 +69,11 @@ module _ (Premises : World ends → Event ends → Type 0) (test : World ends �
       (p .allowed, broken (morning controller loader es) n u v unlike (p .seen))
 
 -- n times the same output is lent
-abbrev Times : ℕ → Type 0
+abbrev pub Times : ℕ → Type 0
 Times zero = Unit {0}
 Times (suc n) = Lendable output × Times n
 
-times : (n : ℕ) → Times n
+pub times : (n : ℕ) → Times n
 times zero = tt
 times (suc n) = (output-long, times n)
 

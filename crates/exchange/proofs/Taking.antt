@@ -25,9 +25,9 @@ use Rattle.once.proofs.Checked.{both-true}
 use Rattle.once.proofs.Lists.{there}
 use Rattle.exchange.specs.Outcomes.{Outcome}
 use Rattle.exchange.specs.Ends.{Waiting, Loader, ends, awaits, withAnswer, outcomesIn, takenIn, takeBy}
-use Rattle.exchange.specs.Terms.{terms}
+use Rattle.exchange.specs.Terms.{Plain, terms}
 use Rattle.exchange.specs.Promise.{window, RefusedStill}
-use Rattle.exchange.specs.Sight.{Plain, Answers, Strange, seen, sight}
+use Rattle.exchange.specs.Sight.{Answers, Strange, seen, sight}
 use Rattle.exchange.proofs.Codec.{encodes-judged, judged-headed, other-kind, own-judged, own-tag, own-told}
 use Rattle.exchange.proofs.Waiting.{answeredIn, Agree, next-agreed, asked-lent, asked-seen, awaits-none, awaits-some, Answering, answering, Cut, cut, behind-cut}
 use Rattle.exchange.proofs.Sender.{agree, next-is, small, few, still, here, fine, alone}

@@ -1,15 +1,15 @@
 -- What the facts about single calls look at: `once` asks for it, and the promise does not name it. Assumes nothing.
 use Prim.Native.Nat.{ℕ, suc}
 use mathlib.Core.Path.{_≡_}
-use mathlib.Core.Bool.{Bool, true, false, cond, not, _&&_}
+use mathlib.Core.Bool.{Bool, true, cond, not, _&&_}
 use mathlib.Core.List.{List, [], _∷_}
 use lib.Dec.{eqb}
 use lib.ListN.{getD}
-use Rattle.word.specs.Words.{bytesOf, Bytes}
+use Rattle.word.specs.Words.{bytesOf}
 use Rattle.header.specs.Limits.{tagCount}
 use Rattle.header.specs.Header.{tagOf, kindOf, discoveryOf}
-use Rattle.message.specs.Request.{Request, Means, Fits}
-use Rattle.message.specs.Walk.{read, requestOf}
+use Rattle.message.specs.Request.{Request, Fits}
+use Rattle.message.specs.Walk.{requestOf}
 use Rattle.answer.specs.Answer.{Answered, encodeAnswer, FitsAnswer}
 use Rattle.tags.specs.Record.{back}
 use Rattle.completer.specs.Controller.{Controller, requestIn, answerIn}
@@ -18,14 +18,7 @@ use Rattle.initiator.specs.Places.{answeredAt}
 use Rattle.once.specs.Tags.{Slot, asked, answered, Sight}
 use Rattle.exchange.specs.Outcomes.{Outcome, each, told, resultsIn}
 use Rattle.exchange.specs.Ends.{Waiting, Loader, ends}
-use Rattle.exchange.specs.Terms.{terms, Sound}
-
--- a well-formed message, no discovery
-pub record Plain (message : List ℕ) : Type 0 where
-  pub bytes : Bytes message
-  pub request : Request
-  pub is : read message ≡ Means request
-  pub clear : discoveryOf (request .byte0) ≡ false
+use Rattle.exchange.specs.Terms.{Plain, terms, Sound}
 
 -- the tag that is j back from the newest: `back`, since a tag that is j back has j for its distance and the other way
 -- round; and the stored answer of it as it is sent; and all that are held, the newest first. Words past an answer's

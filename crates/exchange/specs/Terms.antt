@@ -1,7 +1,7 @@
 -- What the promise says of messages and of what is lent, by the definitions of the two ends. Assumes nothing.
 use Prim.Native.Nat.{ℕ, _*_, _≤_}
 use mathlib.Core.Path.{_≡_}
-use mathlib.Core.Bool.{true}
+use mathlib.Core.Bool.{true, false}
 use mathlib.Core.List.{List}
 use lib.Dec.{eqb}
 use lib.ListN.{length}
@@ -19,6 +19,13 @@ use Rattle.initiator.specs.Places.{newTag}
 use Rattle.once.specs.Promise.{Terms}
 use Rattle.exchange.specs.Outcomes.{outcomeOver}
 use Rattle.exchange.specs.Ends.{Loader, ends}
+
+-- a well-formed message, no discovery
+pub record Plain (message : List ℕ) : Type 0 where
+  pub bytes : Bytes message
+  pub request : Request
+  pub is : read message ≡ Means request
+  pub clear : discoveryOf (request .byte0) ≡ false
 
 -- "well-formed messages, no discoveries, each tagged as offering asks": bytes that 31 lets by under "the tag after the
 -- newest"

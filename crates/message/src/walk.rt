@@ -56,7 +56,7 @@ fn short_write(byte0: u32, h: u32, left: usize) -> bool
     body <= left
 }
 
-// Whether byte 0 is a read's: then it is one.
+// Whether byte 0 is a read's; where this says no, nothing is said.
 fn reads(byte0: u32) -> bool
     ensures { λ r. ⌜ (r ≡ true → kindOf byte0 ≡ Reads) ⌝ }
 {

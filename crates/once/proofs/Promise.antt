@@ -79,6 +79,11 @@ module _ {E : Ends} {T : Terms E} {W : ℕ} {A : Ages} {c : E .Controller} {s : 
         outcomes = rw (v .f-is) (v .outs);
       }
 
+  -- k is how many are taken
+  pub safety-taken : (es : List (Event E)) (a : AllowedRun E T W A c s es) → safety es a .k ≡ (after E W c s es) .taken
+  unfolding safety
+  safety-taken es a = refl
+
   -- A copy of the oldest unfinished message comes: the controller answers it.
   answers-it : (w : World E) (b : E .Lent) (y : ℕ × Option (E .Datagram)) (i : ℕ) (x : E .Datagram) → Inv L w → Flown L (w .offered) y → y ≡ (i, some x) →
       i ≡ finished E w → w .taken ≤ y .0 + A .request → T .Lendable b →

@@ -68,8 +68,8 @@ front-bytes (suc n) (a ∷ b ∷ c ∷ []) h k = absurd (omega arith)
 
 -- words of the bytes b that are put in front of others: b's first bytes stand there
 pub words-in-front :
-    (out b : List ℕ) (n : ℕ) {ws t : List ℕ} → Bytes b → 4 * n ≤ length b → ws ≡ take n (wordsOf b) → t ≡ putWords out 0 ws
-    → t ≡ put out 0 (take (4 * n) b)
+    (out b : List ℕ) (n : ℕ) {ws t : List ℕ} → Bytes b → 4 * n ≤ length b → ws ≡ take n (wordsOf b)
+    → t ≡ putWords out 0 ws → t ≡ put out 0 (take (4 * n) b)
 unfolding putWords
 words-in-front out b n h k e f = f ∙ ap (putWords out 0) e ∙ ap (put out 0) (front-bytes n b h k)
 

@@ -1,7 +1,7 @@
 // Runs of words: into bytes, out of bytes, from words to words and from bytes to bytes; and whether two are the same.
 //
-// Each copy goes by way of a local array, which the compiler drops: a loop into it and a loop out of it become one
-// memmove, where a loop from slice to slice stays a loop with a test for overlap.
+// Each longer copy goes by way of a local array, which the compiler drops: a loop into it and a loop out of it become
+// one memmove, where a loop from slice to slice stays a loop with a test for overlap.
 ghost use mathlib.Core.Path.{_≡_};
 ghost use mathlib.Core.Bool.{_&&_};
 ghost use Prim.Native.Nat.{_+_, _*_, _≤_};

@@ -6,4 +6,5 @@ mod controller_edges;
 mod controller_refusals;
 mod four_held;
 mod four_waiting;
+mod restarts;
 mod sender;

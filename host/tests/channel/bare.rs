@@ -15,6 +15,8 @@ pub struct Bare<E> {
     /// Each at the place of its tag.
     messages: [Vec<u8>; PLACES],
     answers: [Vec<u8>; PLACES],
+    /// Whether the buffers were, at the last reset.
+    cleared: bool,
     ends: PhantomData<E>,
 }
 
@@ -52,6 +54,7 @@ impl<E: Ends> TwoEnds for Bare<E> {
             sender: E::fresh(),
             messages: Default::default(),
             answers: Default::default(),
+            cleared: false,
             ends: PhantomData,
         }
     }
@@ -70,8 +73,19 @@ impl<E: Ends> TwoEnds for Bare<E> {
         E::discovery()
     }
 
-    fn restart(&mut self, answer: &[u8]) {
-        self.sender = result(E::discovered(answer)).expect("a sender");
+    fn hear(&mut self, answer: &[u8]) -> Result<(), u32> {
+        self.sender = result(E::discovered(answer))?;
+        Ok(())
+    }
+
+    /// Every second time its buffers are cleared too.
+    fn reset(&mut self) {
+        self.cleared = !self.cleared;
+        if self.cleared {
+            let Bare { stored, kept, output, .. } = Self::fresh();
+            (self.stored, self.kept, self.output) = (stored, kept, output);
+        }
+        self.tags = TagRecord::fresh();
     }
 
     fn new_tag(&self) -> u32 {

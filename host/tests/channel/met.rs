@@ -17,6 +17,32 @@ pub struct Met {
     ended: Seen,
     /// How many messages more were carried out than were finished.
     unfinished: Seen,
+    /// How lives ended: by a restart, and by a reset of the controller.
+    restarts: Seen,
+    resets: Seen,
+    /// Tags of strangers' discoveries, of reads plus 16.
+    strange: Seen,
+}
+
+/// How far a life had come when it ended.
+#[derive(Clone, Copy)]
+pub enum Ended {
+    Unasked,
+    Unanswered,
+    /// So many messages waited, and the list was not finished.
+    Waiting(usize),
+    AfterTheLast,
+}
+
+impl Ended {
+    fn number(self) -> u32 {
+        match self {
+            Ended::Waiting(many) => many as u32,
+            Ended::AfterTheLast => 10,
+            Ended::Unasked => 11,
+            Ended::Unanswered => 12,
+        }
+    }
 }
 
 impl Met {
@@ -49,6 +75,15 @@ impl Met {
         self.unfinished.note(many as u32);
     }
 
+    pub fn life(&mut self, reset: bool, ended: Ended) {
+        let lives = if reset { &mut self.resets } else { &mut self.restarts };
+        lives.note(ended.number());
+    }
+
+    pub fn strange(&mut self, reads: bool, tag: u32) {
+        self.strange.note(tag + 16 * u32::from(reads));
+    }
+
     pub fn add(&mut self, other: Met) {
         self.refusals.add(other.refusals);
         self.commands.add(other.commands);
@@ -57,6 +92,9 @@ impl Met {
         self.answers.add(other.answers);
         self.ended.add(other.ended);
         self.unfinished.add(other.unfinished);
+        self.restarts.add(other.restarts);
+        self.resets.add(other.resets);
+        self.strange.add(other.strange);
     }
 
     /// Requests too old, early and cut short, answers of another tag and to discoveries, calls out of
@@ -72,5 +110,14 @@ impl Met {
         self.answers.exactly(0..=too_old);
         self.ended.exactly(0..=4);
         self.unfinished.exactly(0..=4);
+    }
+
+    /// Restarts and resets before the loader has asked, before it is answered, with none to four
+    /// waiting, and after the last message; strangers' NOPs and reads of every tag but 0.
+    pub fn all_lives(&self) {
+        for lives in [&self.restarts, &self.resets] {
+            lives.exactly((0..=4).chain(10..=12));
+        }
+        self.strange.exactly((1..16).chain(17..32));
     }
 }

@@ -5,6 +5,7 @@
 // Each test program has one of the two pairs.
 #[allow(dead_code)]
 pub mod bare;
+mod lives;
 mod met;
 mod pair;
 mod rounds;

@@ -13,8 +13,10 @@ pub trait TwoEnds {
     fn serve(&mut self, memory: &mut [u32], datagram: &[u8]) -> Result<Vec<u8>, u32>;
 
     fn discovery() -> [u8; 12];
-    /// A new sender, from an answer to the discovery.
-    fn restart(&mut self, answer: &[u8]);
+    /// The loader takes an answer for that to its discovery: a new sender. Refused, all stays.
+    fn hear(&mut self, answer: &[u8]) -> Result<(), u32>;
+    /// The controller comes up fresh. Its buffers were cleared or not.
+    fn reset(&mut self);
     /// The tag of the message to offer.
     fn new_tag(&self) -> u32;
     /// How many wait.

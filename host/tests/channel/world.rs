@@ -1,5 +1,7 @@
 //! Both ends and the channel between them, event by event, with the model of what must come.
 
+mod list;
+mod lives;
 mod noise;
 
 use super::met::Met;
@@ -8,9 +10,11 @@ use crate::common::{naive, naive_sender};
 use crate::Pair;
 use charkhavo_host::limits::PLACES;
 use charkhavo_host::plain::message::Kind;
-use charkhavo_host::plain::{Addition, TagRecord};
-use charkhavo_host::random::requests::{address, enables, request, Wish};
+use charkhavo_host::plain::TagRecord;
+use charkhavo_host::random::requests::{request, Wish};
 use charkhavo_host::random::{bytes_of, Random};
+use list::List;
+use lives::{Opening, Past};
 
 /// A message of the list.
 struct Message {
@@ -49,13 +53,18 @@ pub struct World {
     // The channel.
     requests: Vec<Datagram>,
     answers: Vec<Datagram>,
-    // The model: all messages offered, and memory after the first `taken` of them.
+    // The model: the life's list, all messages of it offered, and memory after the first `taken` of
+    // them.
+    list: List,
     messages: Vec<Message>,
     model: Vec<u32>,
     pub taken: usize,
     pub finished: usize,
     /// How often the oldest unfinished message was sent.
     pub sends: usize,
+    /// The loader's start, and the lives before this one.
+    opening: Opening,
+    past: Past,
     pub met: Met,
 }
 
@@ -72,11 +81,14 @@ impl World {
             pair: Pair::fresh(),
             requests: Vec::new(),
             answers: Vec::new(),
+            list: List::default(),
             messages: Vec::new(),
             random,
             taken: 0,
             finished: 0,
             sends: 0,
+            opening: Opening::Heard,
+            past: Past::default(),
             met: Met::default(),
         };
         let before = world.random.pick(&[0, 0, 1, 2, 3, 4, 5, 14, 15, 16, 17, 30]);
@@ -91,13 +103,14 @@ impl World {
         }
         assert_eq!(world.pair.new_tag(), before % 16);
         world.model.clone_from(&world.memory);
+        world.past = Past::upon(&world.memory);
         world
     }
 
     /// The loader starts anew and asks the controller where to go on.
     pub fn restart(&mut self) {
         let answer = self.pair.serve(&mut self.memory, &Pair::discovery()).expect("an answer");
-        self.pair.restart(&answer);
+        self.pair.hear(&answer).expect("a sender");
     }
 
     pub fn offered(&self) -> usize {
@@ -106,36 +119,12 @@ impl World {
 
     /// Builds a message and offers it.
     pub fn offer(&mut self) {
-        let bytes = self.build();
+        let bytes = self.next_of_list();
         assert_eq!(self.pair.offer(&bytes), Ok(()));
         self.messages.push(Message { bytes, answer: Vec::new(), answered: false });
         let offered = self.offered();
         self.answers.retain(|copy| copy.number.is_none_or(|n| offered <= n + TOO_OLD + 1));
         self.check_sender();
-    }
-
-    /// A message of any kind and mode, its commands in or out of memory as it happens.
-    fn build(&mut self) -> Vec<u8> {
-        let random = &mut self.random;
-        let (kind, wide) = (random.pick(&[0, 1, 1, 1, 2, 2]), random.one_in(3));
-        let memory = self.model.len();
-        let aims = Wish { kind: Kind::Write, tag: 0, wide, discovery: false, memory };
-        let commands = random.pick(&[1, 1, 1, 2, 3, 7, 30]);
-        let data = random.words(12 * commands);
-        let mut added = Vec::new();
-        for own in data.chunks(12) {
-            let count = random.pick(&[1, 1, 1, 2, 2, 3, 12]);
-            let address = address(random, aims, count);
-            let byte1 = enables(random, count, address);
-            added.push(Addition {
-                address,
-                first: byte1 & 0xF,
-                last: byte1 >> 4,
-                count,
-                data: &own[..if kind == 0 { count.min(2) } else { count }],
-            });
-        }
-        self.pair.build(kind, wide, &added)
     }
 
     /// The numbers of the messages that wait and are not answered, the oldest first.

@@ -7,6 +7,8 @@ use charkhavo_host::{Controller, Outcome, Refusal, Sender, Status};
 
 pub struct Wrapped {
     controller: Controller,
+    /// Whether its buffers were cleared at the last reset: at every second one.
+    cleared: bool,
     sender: Sender,
 }
 
@@ -16,7 +18,7 @@ fn number(refusal: Refusal) -> u32 {
 
 impl TwoEnds for Wrapped {
     fn fresh() -> Wrapped {
-        Wrapped { controller: Controller::fresh(), sender: Sender::fresh() }
+        Wrapped { controller: Controller::fresh(), cleared: true, sender: Sender::fresh() }
     }
 
     fn tag(&self) -> Option<u32> {
@@ -31,8 +33,18 @@ impl TwoEnds for Wrapped {
         Sender::discovery()
     }
 
-    fn restart(&mut self, answer: &[u8]) {
-        self.sender = Sender::discovered(answer).expect("a sender");
+    fn hear(&mut self, answer: &[u8]) -> Result<(), u32> {
+        self.sender = Sender::discovered(answer).map_err(number)?;
+        Ok(())
+    }
+
+    fn reset(&mut self) {
+        self.cleared = !self.cleared;
+        if self.cleared {
+            self.controller = Controller::fresh();
+        } else {
+            self.controller.reset();
+        }
     }
 
     fn new_tag(&self) -> u32 {

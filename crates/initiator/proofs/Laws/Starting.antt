@@ -13,8 +13,9 @@ use Rattle.header.specs.declared.Kind.{Kind}
 use Rattle.header.specs.declared.Kind.the-variants.{Nop}
 use Rattle.header.specs.declared.refusal.Refusal.{Refusal}
 use Rattle.header.specs.Header.{kindOf, replyWords, nextTag}
+use Rattle.header.specs.Refusal.{refusal}
 use Rattle.message.specs.Discovery.{discoveryByte, discoveryCommand, discoveryRequest}
-use Rattle.message.specs.Request.{Means}
+use Rattle.message.specs.Request.{Means, Refused as RefusedReading}
 use Rattle.message.proofs.Laws.Fixed.{discovery-kind}
 use Rattle.answer.specs.declared.Status.{Status}
 use Rattle.answer.specs.declared.Status.the-variants.{Ok}
@@ -22,6 +23,7 @@ use Rattle.answer.specs.declared.Seen.{Seen}
 use Rattle.answer.specs.declared.Look.the-variants.{Item, Refused}
 use Rattle.answer.specs.Answer.{Answered, wanted, lookAt, lookTurn, answersFrom, headFault, judge}
 use Rattle.answer.proofs.Laws.Looking.{judge-passed, judge-refused, looked, Found, found}
+use Rattle.initiator.specs.declared.sender.Moved.{Moved}
 use Rattle.initiator.specs.Sender.{idle, freshSender, wordOk, nextAfter, spoiled, startedAt, startedBy, startedFrom, startOf}
 
 -- a word that is let by is below 32
@@ -84,13 +86,25 @@ pub start-means : (answer : List ℕ) (a : Answered) (more : List Answered) → 
 unfolding startOf
 start-means answer a more e = rw e
 
--- what word 1 makes: of a fresh controller, and of one that holds a tag
-pub started-fresh : startedAt 0 .sender ≡ freshSender
-unfolding startedAt wordOk nextAfter
-started-fresh = refl
+-- one that is refused
+pub start-refused : (answer : List ℕ) (r : Refusal) → judge discoveryRequest answer ≡ RefusedReading r
+    → startOf answer ≡ spoiled r
+unfolding startOf
+start-refused answer r e = rw e
 
-pub started-held : (tag : ℕ) → tag < 16 → startedAt (tag + 16) .sender ≡ idle (nextTag tag)
+-- what word 1 makes: of a fresh controller, and of one that holds a tag
+pub fresh-starts : startedAt 0 ≡ record { refusal = refusal 0; sender = freshSender }
 unfolding startedAt wordOk nextAfter
-started-held tag h =
+fresh-starts = refl
+
+pub held-starts : (tag : ℕ) → tag < 16 → startedAt (tag + 16) ≡ record { refusal = refusal 0; sender = idle (nextTag tag) }
+unfolding startedAt wordOk nextAfter
+held-starts tag h =
     let n : (tag + 16) % 16 ≡ tag = omega arith in
     rw (le-ltb (tag + 16) 16 (omega arith), lt-ltb (tag + 16) 32 (omega arith), n)
+
+pub started-fresh : startedAt 0 .sender ≡ freshSender
+started-fresh = ap (λ (m : Moved). m .sender) fresh-starts
+
+pub started-held : (tag : ℕ) → tag < 16 → startedAt (tag + 16) .sender ≡ idle (nextTag tag)
+started-held tag h = ap (λ (m : Moved). m .sender) (held-starts tag h)

@@ -98,8 +98,8 @@ short-faultless byte0 h left kind same bits fits ends =
     )
 
 -- a read of some words, the header's bits 31:28 being 8: no fault, if its address and nothing else follows it
-pub read-faultless : (byte0 h left : ℕ) → kindOf byte0 ≡ Reads → byte0Of h ≡ byte0 → h / 268435456 ≡ 8 → (countOf h ≡ 0 → ⊥)
-    → left ≡ addressWords byte0 → (address : ℕ) → faultOf byte0 h left address ≡ 0
+pub read-faultless : (byte0 h left : ℕ) → kindOf byte0 ≡ Reads → byte0Of h ≡ byte0 → h / 268435456 ≡ 8
+    → (countOf h ≡ 0 → ⊥) → left ≡ addressWords byte0 → (address : ℕ) → faultOf byte0 h left address ≡ 0
 read-faultless byte0 h left kind same bits some ends address =
     let last : lastOf h ≡ true = rw (sym (div-div-eq-div-mul h 268435456 8), bits) in
     let none : dataWords (kindOf byte0) (countOf h) ≡ 0 = rw kind in

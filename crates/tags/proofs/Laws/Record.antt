@@ -75,7 +75,8 @@ one-of-four P a b c d (suc (suc (suc zero))) h = d
 one-of-four P a b c d (suc (suc (suc (suc p)))) h = absurd (omega arith)
 
 -- of a place that is held both lengths are asked for
-pub place-held : (held back words request : ℕ) → back < held → placeOk held back words request ≡ (wordsOk words && wordsOk request)
+pub place-held : (held back words request : ℕ) → back < held
+    → placeOk held back words request ≡ (wordsOk words && wordsOk request)
 unfolding placeOk
 place-held held back words request h = rw (lt-leb held back h)
 
@@ -252,7 +253,8 @@ unfolding expected
 expected-by tags tag f = rw f
 
 -- a new tag is not held: it is fifteen back from the newest
-pub new-not-held : (tags : TagRecord) (tag : ℕ) → recordOk tags ≡ true → expected tags tag ≡ true → holds tags tag ≡ false
+pub new-not-held : (tags : TagRecord) (tag : ℕ) → recordOk tags ≡ true → expected tags tag ≡ true
+    → holds tags tag ≡ false
 unfolding holds
 new-not-held tags tag ok e = go (isFresh tags) refl
   where

@@ -71,7 +71,7 @@ impl World {
     }
 
     /// A discovery without writes, whole or cut short; its answer may reach the sender.
-    fn discover(&mut self) {
+    pub fn discover(&mut self) {
         let random = &mut self.random;
         let kind = random.pick(&[Kind::Nop, Kind::Read]);
         let (tag, memory) = (random.word() % 16, self.memory.len());

@@ -42,7 +42,8 @@ returns-5 c e =
     let kind = s1 .before .reads .ensures (not-false _ (s1 .if1 .left)) in
     let same = sym (s2 .before .byte0 .ensures .0) ∙ s2 .if2 .left in
     let some : countOf (a .h) ≡ 0 → ⊥ = λ z. s4 .if4 .left (s4 .before .count .ensures .0 ∙ z) in
-    read-faultless (a .byte0) (a .h) (a .left) kind same (s3 .if3 .left) some (eqb-true _ _ e ∙ c .address-words .ensures .0)
+    let ends = eqb-true _ _ e ∙ c .address-words .ensures .0 in
+    read-faultless (a .byte0) (a .h) (a .left) kind same (s3 .if3 .left) some ends
 
 pub last-read-spec : {M : Type 1} → statement M
 last-read-spec =

@@ -1,4 +1,5 @@
--- `message::walk::step_at` meets its contract: no header, a short write, a last read, the fault, or the header. Assumes nothing.
+-- `message::walk::step_at` meets its contract: no header, a short write, a last read, the fault, or the header. Assumes
+-- nothing.
 use Prim.Native.Nat.{_+_}
 use borrow.Author.Tests.{lt-ltb}
 use lib.ListN.{drop}
@@ -69,7 +70,8 @@ returns-3 c =
     let a = w .before .before .before .args in
     let address = addressFrom (addressWords (a .byte0)) (drop (a .at + 1) (wordsOf (a .datagram .now))) in
     let none = t .before .last-read .ensures (t .if3 .taken) address in
-    rw (length-wordsOf (a .datagram .now), ← w .word-at .ensures, lt-ltb _ _ (w .before .if1 .left), step-read _ _ _ _ _ none)
+    let there = lt-ltb _ _ (w .before .if1 .left) in
+    rw (length-wordsOf (a .datagram .now), ← w .word-at .ensures, there, step-read _ _ _ _ _ none)
     (simp (c .head-of .ensures))
 
 fault-requires : tie.Need-fault-requires

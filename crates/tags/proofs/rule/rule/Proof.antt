@@ -36,7 +36,8 @@ unfolding ruleOf
 returns-3 c =
     let t = c .before .before .before .before in
     let d = t .before .before in
-    simp (sym (d .discovery .ensures) ∙ t .before .if1 .left, ← t .tag .ensures .0, sym (c .before .holds .ensures) ∙ c .if3 .taken)
+    let again = sym (c .before .holds .ensures) ∙ c .if3 .taken in
+    simp (sym (d .discovery .ensures) ∙ t .before .if1 .left, ← t .tag .ensures .0, again)
 
 of-requires : tie.Need-of-requires
 of-requires c κs = search needs

@@ -37,7 +37,9 @@ returns c =
     let a = k .before .before .args in
     let bytes : Bytes (a .b .now) = below-all 256 _ (λ i. omega (arith, k .shared-slice-known .given i)) in
     let long : 3 ≤ length (wordsOf (a .b .now)) = rw (length-wordsOf (a .b .now)) (omega arith) in
-    words-in-front (a .out .now) (a .b .now) 3 bytes (omega arith) (rw (w1 .word-at .ensures, w2 .word-at2 .ensures, w3 .word-at3 .ensures) (first-three (wordsOf (a .b .now)) long)) (s .spread .ensures)
+    words-in-front (a .out .now) (a .b .now) 3 bytes (omega arith)
+    (rw (w1 .word-at .ensures, w2 .word-at2 .ensures, w3 .word-at3 .ensures) (first-three (wordsOf (a .b .now)) long))
+    (s .spread .ensures)
 
 pub copy-three-spec : {M : Type 1} → statement M
 copy-three-spec =

@@ -33,7 +33,9 @@ returns c =
     let a = k .before .before .args in
     let bytes : Bytes (a .b .now) = below-all 256 _ (λ i. omega (arith, k .shared-slice-known .given i)) in
     let long : 2 ≤ length (wordsOf (a .b .now)) = rw (length-wordsOf (a .b .now)) (omega arith) in
-    words-in-front (a .out .now) (a .b .now) 2 bytes (omega arith) (rw (w1 .word-at .ensures, w2 .word-at2 .ensures) (first-two (wordsOf (a .b .now)) long)) (s .spread .ensures)
+    words-in-front (a .out .now) (a .b .now) 2 bytes (omega arith)
+    (rw (w1 .word-at .ensures, w2 .word-at2 .ensures) (first-two (wordsOf (a .b .now)) long))
+    (s .spread .ensures)
 
 pub copy-two-spec : {M : Type 1} → statement M
 copy-two-spec =
