@@ -1,11 +1,12 @@
 # Reads an LLVM module as text and prints, for each function that it exports, a C declaration of it as it stands in
 # registers. Refuses what two calling conventions pass differently: a struct of more than 16 bytes, taken (byval) or
 # given (by a pointer that comes first and is handed back), and whatever else is not of the types below. A record of 5
-# bytes is i40: it has a register of 64 bits, or two of 32, to itself, and what stands above it there is not looked at.
+# bytes is i40, one of 7 i56: it has a register of 64 bits, or two of 32, to itself, and what stands above it there is
+# not looked at.
 BEGIN {
     takes["ptr"] = "const void *"; takes["i64"] = "uint64_t"; takes["i32"] = "uint32_t"; takes["i1"] = "bool"
     gives["i64"] = "uint64_t"; gives["i32"] = "uint32_t"
-    takes["i40"] = gives["i40"] = "uint64_t"
+    takes["i40"] = gives["i40"] = takes["i56"] = gives["i56"] = "uint64_t"
     gives["{ i64, i64 }"] = gives["{ i64, i32 }"] = "Registers"
 }
 

@@ -2,15 +2,16 @@
  *
  * libcontroller.a is the brake and hoist controller's end: one call for each datagram that
  * arrives, charkhavo_serve. libloader.a is the cold-start loader's end: all other calls, which
- * build messages, send up to four until their answers are accepted, and tell what these say. Either
- * may be linked without the other; from elsewhere they need memmove alone, on 32-bit Arm also memcpy
- * and, on armv7a, a division (host/README.md).
+ * build messages, send up to four until their answers are accepted, and tell what these say; and,
+ * above them, load the training table. Either may be linked without the other; from elsewhere they
+ * need memmove alone, on 32-bit Arm also memcpy and, on armv7a, a division (host/README.md).
  *
  * Nothing over 16 bytes goes by value: a larger record is lent by pointer and changed in place.
  *
  * What a caller must keep:
  * - a pointer is valid for the length that follows it, and aligned for its type; of length 0 it
- *   may be any pointer, NULL too. A record's pointer is always valid;
+ *   may be any pointer, NULL too. A record's pointer is always valid, and so is that to the rows of
+ *   a training table, all CHARKHAVO_ROWS_WORDS of them;
  * - a bool is 0 or 1;
  * - what a call may change (its pointer is not to const) overlaps nothing else that the same
  *   call is lent.
@@ -51,6 +52,10 @@ extern "C" {
 #define CHARKHAVO_KEPT_BYTES (CHARKHAVO_PLACES * CHARKHAVO_BYTES)
 /* the most words of memory; the least is 1 */
 #define CHARKHAVO_MEMORY_WORDS 16384
+/* the words of a training table: 24 rows of 8, and the mark */
+#define CHARKHAVO_TABLE_WORDS 193
+/* those of them that the caller has: seven of each row */
+#define CHARKHAVO_ROWS_WORDS 168
 
 /* Kinds of a message: 0 NOP, 1 write, 2 read, 3 response. */
 
@@ -117,7 +122,8 @@ extern "C" {
 
 /* The sender. */
 
-/* sending or taking an answer while none waits */
+/* sending or taking an answer while none waits; a training table that is done or has ended has no
+   message */
 #define CHARKHAVO_REFUSED_NONE_WAITS UINT32_C(30)
 /* request would be refused 2 to 10, has the discovery bit, or its tag is not (offering) the one after
    the newest, or (sending, taking) that of a waiting message not yet answered */
@@ -131,12 +137,17 @@ extern "C" {
 #define CHARKHAVO_REFUSED_ANSWER_HEADER UINT32_C(34)
 /* a header or body past the end, LAST missing or early, or words after it */
 #define CHARKHAVO_REFUSED_ANSWER_END UINT32_C(35)
-/* offering while four wait */
-#define CHARKHAVO_REFUSED_FOUR_WAIT UINT32_C(36)
+/* offering while four wait; of the training table, while one does */
+#define CHARKHAVO_REFUSED_OFFERING UINT32_C(36)
 /* sender record's next tag over 15, or more than four waiting */
 #define CHARKHAVO_REFUSED_SENDER UINT32_C(37)
 /* discovery status not OK, or word 1 has bits above 4 set, or bit 4 clear and a tag nonzero */
 #define CHARKHAVO_REFUSED_DISCOVERY UINT32_C(38)
+
+/* The training table. */
+
+/* a set-up with room for fewer than 193 words, a start not a multiple of 4 or an end past 2^32 */
+#define CHARKHAVO_REFUSED_SET_UP UINT32_C(40)
 
 /* A refusal: its number, 0 where nothing is refused, and the index, from 0, of the header word that
    was looked at. 3 to 9 give it in the datagram, 31 in the request (0 for a request that would be
@@ -337,6 +348,87 @@ typedef struct CharkhavoPart {
    is not an OK read. */
 CharkhavoPart charkhavo_read_data(const uint8_t *request, uint64_t request_length,
                                   const uint8_t *answer, uint64_t answer_length, uint64_t k);
+
+/* The training table: 24 rows of 8 words, then one word, the mark. The first word of a row is its
+   number, 1 to 24, and the other seven are the caller's. Row r stands at byte start + 32 * (r - 1) of
+   memory, the mark at start + 768. The mark is 24 where the table is complete: read the rows only then.
+
+   An attempt loads it by four messages, one at a time: 0 to the mark; the rows; reads of all rows;
+   and, only if every row came back as sent, all eight words, 24 to the mark. A command that failed
+   (Timeout too), or a row that differs, ends the attempt with the row's number, the lowest first; 25
+   if it was the mark's. The mark is then 0, or as it was if writing 0 failed. Nothing else ends an
+   attempt: what is lost or refused is sent again.
+
+   A loader makes one attempt in each of its lives, and sends nothing else: it asks charkhavo_set_up
+   before it sends anything, empties the line, asks by the fixed discovery, and begins with the sender
+   that it gets. To try again, whatever an attempt came to, it restarts. As long as the table has the
+   same start in every life, nobody else writes its words, and the mark was not 24 before the first,
+   the mark is 24 only while all 24 rows are those of one life; an attempt that is done finds its own
+   rows there. host/c/table.c is such a loader, whole. */
+
+/* What comes next: the message to be sent, or how the attempt came to its end. */
+
+/* 0 to the mark */
+#define CHARKHAVO_STAGE_CLEAR UINT8_C(0)
+/* 24 writes, a row each */
+#define CHARKHAVO_STAGE_ROWS UINT8_C(1)
+/* 24 reads, a row each */
+#define CHARKHAVO_STAGE_BACK UINT8_C(2)
+/* 24 to the mark */
+#define CHARKHAVO_STAGE_MARK UINT8_C(3)
+/* every row came back as sent, and the mark is 24 */
+#define CHARKHAVO_STAGE_DONE UINT8_C(4)
+/* it failed, at `row`; any other number says so too */
+#define CHARKHAVO_STAGE_ENDED UINT8_C(5)
+
+typedef struct CharkhavoTableAttempt {
+    CharkhavoSender sender;
+    uint8_t stage;  /* what comes next */
+    uint8_t row;    /* the row that it ended with, 1 to 24, 25 for the mark; 0 if it has not ended */
+} CharkhavoTableAttempt;
+
+/* What the next message comes to: the number of its refusal, its length in bytes, 0 with a refusal,
+   and the attempt to go on with. */
+typedef struct CharkhavoTableMade {
+    uint32_t refusal;
+    uint32_t length;
+    CharkhavoTableAttempt attempt;
+} CharkhavoTableMade;
+
+/* What taking an answer comes to: its refusal, and the attempt to go on with. */
+typedef struct CharkhavoTableTaken {
+    CharkhavoRefusal refusal;
+    CharkhavoTableAttempt attempt;
+} CharkhavoTableTaken;
+
+/* The refusal of a set-up, 40, or 0: the table's start, a byte address, and how many words there are
+   for it from there on. They may end at 2^32, and not past it. */
+uint32_t charkhavo_set_up(uint64_t start, uint64_t room);
+
+/* The attempt that begins with a sender, the one that charkhavo_discovered gave. With one at which a
+   message waits every later call refuses by 37 (a wrong set-up still by 40). */
+CharkhavoTableAttempt charkhavo_attempt(CharkhavoSender sender);
+
+/* Writes the attempt's next message into the output, under the sender's next tag, and offers it. It
+   then waits: send its first `length` bytes, any number of times, until charkhavo_table_take has
+   accepted an answer, and keep them unchanged until then. `rows` has the caller's words, seven of
+   row 1, then seven of row 2 and so on. Start, room and rows are the same throughout an attempt.
+   Refusals: 40; 37; 36 (a message waits); 30 (done or ended); 21 (an output shorter than
+   CHARKHAVO_BYTES). Output bytes past the message keep what they held; with a refusal all do, and
+   the attempt is as it was. */
+CharkhavoTableMade charkhavo_table_message(uint8_t *output, uint64_t output_length,
+                                           CharkhavoTableAttempt attempt,
+                                           uint64_t start, uint64_t room,
+                                           const uint32_t rows[CHARKHAVO_ROWS_WORDS]);
+
+/* Takes an answer to the attempt's message, which waits. Lend it the very bytes that
+   charkhavo_table_message gave, and the same rows. Accepted, the attempt goes on to its next
+   message, is done, or has ended with the row's number. Refusals: those of charkhavo_take, with the
+   attempt as it was: it waits on. An answer of no bytes, none having come in time, is one: 32. */
+CharkhavoTableTaken charkhavo_table_take(CharkhavoTableAttempt attempt,
+                                         const uint8_t *message, uint64_t message_length,
+                                         const uint8_t *answer, uint64_t answer_length,
+                                         const uint32_t rows[CHARKHAVO_ROWS_WORDS]);
 
 #ifdef __cplusplus
 }

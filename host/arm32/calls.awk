@@ -12,8 +12,10 @@ NR == FNR {
 function call(type, name, taken,    count, part, k, words, word) {
     count = taken == "void" ? 0 : split(taken, part, /, */)
     for (k = 1; k <= count; k++) {
-        match(part[k], /[A-Za-z_]+$/)
-        word = substr(part[k], RSTART)
+        word = part[k]
+        sub(/\[[A-Z_]*\]$/, "", word)
+        match(word, /[A-Za-z_]+$/)
+        word = substr(word, RSTART)
         if (part[k] ~ /^Charkhavo[A-Za-z]* [a-z_]+$/) word = "AS_NUMBER(" word ")"
         words = words (k > 1 ? ", " : "") word
     }

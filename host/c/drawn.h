@@ -9,7 +9,7 @@
 #define LAST UINT32_C(0x80000000)
 
 /* A number below another, by xorshift. Two draws never stand in one expression: C does not say which comes first. */
-static uint32_t draw(uint32_t below) {
+static inline uint32_t draw(uint32_t below) {
     static uint64_t state = UINT64_C(88172645463325252);
     state ^= state << 13;
     state ^= state >> 7;
@@ -18,30 +18,30 @@ static uint32_t draw(uint32_t below) {
 }
 
 /* Once in so many times. */
-static bool once_in(uint32_t times) {
+static inline bool once_in(uint32_t times) {
     return draw(times) == 0;
 }
 
 static uint64_t hash = UINT64_C(14695981039346656037);
 
-static void mix(uint64_t number) {
+static inline void mix(uint64_t number) {
     hash = (hash ^ number) * UINT64_C(1099511628211);
     hash ^= hash >> 29;
 }
 
-static void mix_bytes(const uint8_t *bytes, uint64_t count) {
+static inline void mix_bytes(const uint8_t *bytes, uint64_t count) {
     for (uint64_t k = 0; k < count; k += 1) {
         mix(bytes[k]);
     }
 }
 
-static void mix_words(const uint32_t *words, uint64_t count) {
+static inline void mix_words(const uint32_t *words, uint64_t count) {
     for (uint64_t k = 0; k < count; k += 1) {
         mix(words[k]);
     }
 }
 
-static void copy(uint8_t *to, const uint8_t *from, uint64_t count) {
+static inline void copy(uint8_t *to, const uint8_t *from, uint64_t count) {
     for (uint64_t k = 0; k < count; k += 1) {
         to[k] = from[k];
     }
@@ -50,24 +50,24 @@ static void copy(uint8_t *to, const uint8_t *from, uint64_t count) {
 /* A message is drawn in a byte more than the limit. */
 #define DRAWN_BYTES (CHARKHAVO_BYTES + 1)
 
-static void put_word(uint8_t *message, uint64_t place, uint32_t word) {
+static inline void put_word(uint8_t *message, uint64_t place, uint32_t word) {
     for (uint32_t k = 0; k < 4 && 4 * place + k < DRAWN_BYTES; k += 1) {
         message[4 * place + k] = (uint8_t)(word >> 8 * k);
     }
 }
 
-static uint32_t draw_kind(void) {
+static inline uint32_t draw_kind(void) {
     return once_in(40) ? CHARKHAVO_RESPONSE : draw(3);
 }
 
 /* Bit 0: addresses of 64 bits; bit 1: discovery. */
-static uint32_t draw_modes(void) {
+static inline uint32_t draw_modes(void) {
     uint32_t wide = once_in(4) ? 1 : 0;
     return once_in(8) ? wide | 2 : wide;
 }
 
 /* How many data words: few, seldom too many. */
-static uint32_t draw_count(uint32_t kind, uint32_t most) {
+static inline uint32_t draw_count(uint32_t kind, uint32_t most) {
     if (kind == CHARKHAVO_NOP) {
         return once_in(20) ? draw(6) : draw(3);
     }
@@ -75,7 +75,7 @@ static uint32_t draw_count(uint32_t kind, uint32_t most) {
 }
 
 /* Byte enables of the first and last word: mostly whole, else any. */
-static uint32_t draw_enables(uint32_t count) {
+static inline uint32_t draw_enables(uint32_t count) {
     if (once_in(3)) {
         return draw(256);
     }
@@ -83,7 +83,7 @@ static uint32_t draw_enables(uint32_t count) {
 }
 
 /* An address, mostly of memory; in the first 2^32 bytes but seldom. */
-static uint64_t draw_address(void) {
+static inline uint64_t draw_address(void) {
     uint64_t address = 4 * draw(MEMORY_WORDS + 2);
     if (once_in(40)) {
         address += 1;
@@ -92,7 +92,7 @@ static uint64_t draw_address(void) {
 }
 
 /* Draws a command at a place in the message; gives the place behind it. */
-static uint64_t draw_command(uint8_t *message, uint64_t place, uint32_t byte0, bool last) {
+static inline uint64_t draw_command(uint8_t *message, uint64_t place, uint32_t byte0, bool last) {
     uint32_t kind = byte0 >> 4 & 3;
     uint32_t count = draw_count(kind, 4095);
     uint32_t enables = draw_enables(count);
@@ -116,7 +116,7 @@ static uint64_t draw_command(uint8_t *message, uint64_t place, uint32_t byte0, b
 }
 
 /* Draws a message of a tag word by word; gives its length. */
-static uint64_t draw_message(uint8_t *message, uint32_t tag) {
+static inline uint64_t draw_message(uint8_t *message, uint32_t tag) {
     uint32_t byte0 = tag;
     byte0 |= draw_kind() << 4;
     byte0 |= draw_modes() << 6;

@@ -1,5 +1,6 @@
 /* What a C caller relies on, by hand: that a repeat with another body is refused, which repeats are
- * answered, where a refusal stands, what a refused building call leaves, and NULL of length 0.
+ * answered, where a refusal stands, what a refused building call leaves, what a refused call of the
+ * training table leaves, and NULL of length 0.
  *
  * Exits with 1 if anything differs. */
 #include "end.h"
@@ -202,6 +203,48 @@ static void nothing_to_send(void) {
     expect(part.start == 0 && part.length == 0, "no read data of nothing");
 }
 
+/* Whether two attempts are the same, byte for byte: they have no gaps. */
+static bool same_attempt(CharkhavoTableAttempt a, CharkhavoTableAttempt b) {
+    return memcmp(&a, &b, sizeof a) == 0;
+}
+
+static void expect_set_up(uint64_t start, uint64_t room, uint32_t number, const char *what) {
+    expect(charkhavo_set_up(start, room) == number, what);
+}
+
+/* The training table: its set-up from both sides; a refused call gives the attempt back as it came,
+   what is not looked at too; NULL of length 0. */
+static void refused_table(void) {
+    static const uint32_t rows[CHARKHAVO_ROWS_WORDS];
+    static uint8_t output[CHARKHAVO_BYTES];
+    const uint64_t bytes = sizeof output, top = UINT64_C(1) << 32;
+    expect_set_up(top - 772, 193, CHARKHAVO_ACCEPTED, "a table that ends at 2^32");
+    expect_set_up(top - 768, 193, CHARKHAVO_REFUSED_SET_UP, "one that ends past it");
+    expect_set_up(0, 192, CHARKHAVO_REFUSED_SET_UP, "a word too few");
+    expect_set_up(2, 193, CHARKHAVO_REFUSED_SET_UP, "no multiple of 4");
+    CharkhavoTableAttempt odd = {{5, 0, true, false, true}, CHARKHAVO_STAGE_MARK, 77}, ended = odd;
+    ended.stage = 200;
+    CharkhavoTableMade made = charkhavo_table_message(output, bytes, odd, 0, 192, rows);
+    expect(made.refusal == CHARKHAVO_REFUSED_SET_UP && made.length == 0, "a message of no set-up");
+    expect(same_attempt(made.attempt, odd), "the attempt as it was");
+    made = charkhavo_table_message(output, bytes, ended, 0, 193, rows);
+    expect(made.refusal == CHARKHAVO_REFUSED_NONE_WAITS, "a message of an attempt that has ended");
+    expect(same_attempt(made.attempt, ended), "the ended attempt as it was");
+    made = charkhavo_table_message(NULL, 0, odd, 0, 193, rows);
+    expect(made.refusal == CHARKHAVO_REFUSED_BUILDING, "a message in no output");
+    made = charkhavo_table_message(output, bytes, odd, 0, 193, rows);
+    expect(made.refusal == CHARKHAVO_ACCEPTED && made.length == 12, "the mark's message");
+    expect(word_at(output, 0) == 0x80010F15 && word_at(output, 1) == 768 && word_at(output, 2) == 24, "its words");
+    const CharkhavoTableAttempt waiting = {{5, 1, false, false, false}, CHARKHAVO_STAGE_MARK, 0};
+    expect(same_attempt(made.attempt, waiting), "it waits");
+    CharkhavoTableTaken taken = charkhavo_table_take(waiting, output, 12, NULL, 0, rows);
+    expect_number(taken.refusal, CHARKHAVO_REFUSED_ANSWER_LENGTH, "no answer in time");
+    expect(same_attempt(taken.attempt, waiting), "it waits on");
+    taken = charkhavo_table_take(odd, NULL, 0, nop, 4, rows);
+    expect_number(taken.refusal, CHARKHAVO_REFUSED_NONE_WAITS, "an answer to nothing");
+    expect(same_attempt(taken.attempt, odd), "the attempt as it was then");
+}
+
 int main(void) {
     static struct Controller end;
     start(&end);
@@ -213,6 +256,7 @@ int main(void) {
     refused_building();
     nothing_to_build();
     nothing_to_send();
+    refused_table();
     printf(differences == 0 ? "all as expected\n" : "DIFFERENCES\n");
     return differences == 0 ? 0 : 1;
 }

@@ -1,7 +1,8 @@
 /* The specification's three worked examples through both libraries, as firmware would run them: a
  * discovery NOP, a read and a write, built, served, and compared with the specification's words;
  * then the same three as a loader sends them, under its own tags, with an answer lost each time.
- * Also how the records are laid out. A loader with four messages waiting is in loader.c.
+ * Also how the records are laid out. A loader with four messages waiting is in loader.c, one of the
+ * training table in table.c.
  *
  * Prints the words sent and answered; exits with 1 if anything differs. */
 #include "end.h"
@@ -43,6 +44,14 @@ LAYOUT(CharkhavoSending, 16);
 PLACE(CharkhavoSending, length, 8);
 LAYOUT(CharkhavoPart, 16);
 PLACE(CharkhavoPart, length, 8);
+LAYOUT(CharkhavoTableAttempt, 7);
+PLACE(CharkhavoTableAttempt, stage, 5);
+PLACE(CharkhavoTableAttempt, row, 6);
+LAYOUT(CharkhavoTableMade, 16);
+PLACE(CharkhavoTableMade, length, 4);
+PLACE(CharkhavoTableMade, attempt, 8);
+LAYOUT(CharkhavoTableTaken, 16);
+PLACE(CharkhavoTableTaken, attempt, 8);
 
 /* Prints a datagram's words and compares them. */
 static void show(const char *who, const uint8_t *bytes, size_t length, const uint32_t *words,

@@ -3,26 +3,24 @@
  * refusal, how often so many messages ended at once, and a hash of all that was given back and left: two targets agree
  * if they print the same. Exits with 1 if a refusal that a call can give, or a number of messages ended, never came. */
 #include "charkhavo.h"
-#include "console.h"
-#include "drawn.h"
+#include "counted.h"
 
 #define ROUNDS 1000000
 
-/* The calls that refuse, and the refusals of each. */
-enum Call { SERVE, REFUSAL, BEGIN, ADD, CLOSE, OFFER, SEND, TAKE, DISCOVERED, CALLS };
-static const struct { const char *name; uint8_t refusals[14]; } calls[CALLS] = {
-    {"serve", {0, 1, 2, 3, 4, 5, 6, 7, 8, 9, 10, 11, 12, 99}},
-    {"refusal", {0, 2, 3, 4, 5, 6, 7, 8, 9, 10, 99}},
-    {"begin", {0, 21, 99}},
-    {"add", {0, 21, 22, 23, 24, 25, 26, 99}},
-    {"close", {0, 21, 22, 99}},
-    {"offer", {0, 31, 36, 37, 99}},
-    {"send", {0, 30, 31, 37, 99}},
-    {"take", {0, 30, 31, 32, 33, 34, 35, 37, 99}},
-    {"discovered", {0, 32, 33, 34, 35, 38, 99}},
+/* The calls that refuse, and the refusals of each; and how many messages an answer that is taken ended. */
+enum Call { SERVE, REFUSAL, BEGIN, ADD, CLOSE, OFFER, SEND, TAKE, DISCOVERED, ENDED, CALLS };
+static struct Counted calls[CALLS] = {
+    {.name = "serve", .numbers = {0, 1, 2, 3, 4, 5, 6, 7, 8, 9, 10, 11, 12, 99}},
+    {.name = "refusal", .numbers = {0, 2, 3, 4, 5, 6, 7, 8, 9, 10, 99}},
+    {.name = "begin", .numbers = {0, 21, 99}},
+    {.name = "add", .numbers = {0, 21, 22, 23, 24, 25, 26, 99}},
+    {.name = "close", .numbers = {0, 21, 22, 99}},
+    {.name = "offer", .numbers = {0, 31, 36, 37, 99}},
+    {.name = "send", .numbers = {0, 30, 31, 37, 99}},
+    {.name = "take", .numbers = {0, 30, 31, 32, 33, 34, 35, 37, 99}},
+    {.name = "discovered", .numbers = {0, 32, 33, 34, 35, 38, 99}},
+    {.name = "ended", .numbers = {0, 1, 2, 3, 4, 99}},
 };
-static uint32_t counts[CALLS][39];
-static uint32_t ended[CHARKHAVO_PLACES + 1];
 
 /* The two ends, and the message that comes to them. */
 static uint32_t memory[MEMORY_WORDS], stored[CHARKHAVO_STORED_WORDS];
@@ -47,7 +45,7 @@ static struct Place *place_of(uint32_t tag) {
 static void note(enum Call call, CharkhavoRefusal refusal) {
     mix(refusal.number);
     mix(refusal.at);
-    counts[call][refusal.number < 39 ? refusal.number : 38] += 1;
+    count(&calls[call], refusal.number);
 }
 
 /* A tag: mostly that which may be offered. */
@@ -239,7 +237,7 @@ static void exchange(void) {
     mix(taken.ended);
     sender = taken.sender;
     if (taken.refusal.number == CHARKHAVO_ACCEPTED) {
-        ended[taken.ended <= CHARKHAVO_PLACES ? taken.ended : 0] += 1;
+        count(&calls[ENDED], taken.ended);
     }
 }
 
@@ -320,38 +318,6 @@ static void play(uint32_t round) {
     }
 }
 
-/* Says how often a number came, after others or as the first; whether it did. */
-static bool report_one(bool first, uint32_t number, uint32_t times) {
-    say(first ? ": " : ", ");
-    say_number(number);
-    say(" x ");
-    say_number(times);
-    return times != 0;
-}
-
-/* Says how often each refusal came, and how often so many ended; whether all did that can. */
-static bool report(void) {
-    bool all = true;
-    for (int call = 0; call < CALLS; call += 1) {
-        say(calls[call].name);
-        for (const uint8_t *number = calls[call].refusals; *number != 99; number += 1) {
-            all = report_one(number == calls[call].refusals, *number, counts[call][*number]) && all;
-        }
-        say("\n");
-    }
-    say("ended");
-    for (uint32_t many = 0; many <= CHARKHAVO_PLACES; many += 1) {
-        all = report_one(many == 0, many, ended[many]) && all;
-    }
-    say("\n");
-    say_number(ROUNDS);
-    say(" rounds, hash ");
-    say_word((uint32_t)(hash >> 32));
-    say_word((uint32_t)hash);
-    say(all ? "\n" : "\nNOT ALL CAME\n");
-    return all;
-}
-
 int main(void) {
     for (uint32_t k = 0; k < CHARKHAVO_WORDS; k += 1) {
         payload[k] = draw(0xFFFFFFFF);
@@ -360,5 +326,5 @@ int main(void) {
     for (uint32_t round = 0; round < ROUNDS; round += 1) {
         play(round);
     }
-    return report() ? 0 : 1;
+    return report(calls, CALLS, ROUNDS);
 }

@@ -1,7 +1,7 @@
 //! Charkhavo's two static libraries for programs in Rust, and an ordinary implementation of the
 //! same rules (document 01 and the requests that have landed) to compare them with.
 //!
-//! The libraries' wrappers: `controller`, `builder`, `sender` and `outcome` are the ends as a
+//! The libraries' wrappers: `controller`, `builder`, `sender`, `outcome` and `table` are the ends as a
 //! program holds them; `refusal` is the error of each call; `ffi`, below them, has one function
 //! for each of the libraries', for any records and buffers.
 //!
@@ -44,6 +44,7 @@ pub mod plain;
 pub mod random;
 pub mod refusal;
 pub mod sender;
+pub mod table;
 pub mod timed;
 
 pub use builder::Builder;

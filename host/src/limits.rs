@@ -1,5 +1,5 @@
-//! The limits of document 01 and of requests [6] and [9], named here alone: for the wrappers, which
-//! lend buffers of these lengths, and for the ordinary implementation.
+//! The limits of document 01 and of requests [6], [9] and [13], named here alone: for the wrappers,
+//! which lend buffers of these lengths, and for the ordinary implementation.
 
 /// The most words a message or an answer has.
 pub const WORDS: usize = 2_243;
@@ -14,3 +14,10 @@ pub const PLACES: usize = 4;
 pub const STORED: usize = PLACES * WORDS;
 /// The least bytes of the kept requests; each place has `BYTES` of them.
 pub const KEPT: usize = PLACES * BYTES;
+/// The rows of a training table, and the words of each.
+pub const ROWS: usize = 24;
+pub const ROW: usize = 8;
+/// The words of a training table: its rows, and the mark behind them.
+pub const TABLE: usize = ROWS * ROW + 1;
+/// The words of a training table that the caller has: of each row all but the first, its number.
+pub type Rows = [[u32; ROW - 1]; ROWS];

@@ -1,4 +1,4 @@
-//! The refusals: document 01's numbers, and its words for each.
+//! The refusals: the documents' numbers, and their words for each.
 
 use crate::limits::{BYTES, WORDS};
 use std::fmt;
@@ -51,14 +51,17 @@ impl Refusal {
     pub const ANSWER_BYTE_0: Refusal = Refusal::of(33);
     pub const ANSWER_HEADER: Refusal = Refusal::of(34);
     pub const ANSWER_END: Refusal = Refusal::of(35);
-    pub const FOUR_WAIT: Refusal = Refusal::of(36);
+    pub const OFFERING: Refusal = Refusal::of(36);
     pub const SENDER: Refusal = Refusal::of(37);
     pub const DISCOVERY: Refusal = Refusal::of(38);
+
+    // The training table.
+    pub const SET_UP: Refusal = Refusal::of(40);
 }
 
-/// Document 01's sentence for each number, 1, 11, 12, 31, 36 and 37 by requests [7] and [9];
-/// `{words}` and `{bytes}` stand for the limit.
-pub const TABLE: [(u32, &str); 27] = [
+/// Document 01's sentence for each number, 1, 11, 12, 31, 36 and 37 by requests [7] and [9], 40 and
+/// what 30 and 36 say of the training table by [13]; `{words}` and `{bytes}` stand for the limit.
+pub const TABLE: [(u32, &str); 28] = [
     (1, "memory, stored answers, kept requests or output has a forbidden length, or the record is not fresh and \
          not (one to four held, newest tag 0 to 15, both lengths of each held 1 to {words})"),
     (2, "0 bytes, not a multiple of 4, or over {bytes}"),
@@ -78,7 +81,8 @@ pub const TABLE: [(u32, &str); 27] = [
     (24, "enables"),
     (25, "address of 2^32 or more in 32-bit mode"),
     (26, "request or all-OK answer would pass {words} words"),
-    (30, "sending or taking an answer while none waits"),
+    (30, "sending or taking an answer while none waits; a training table that is done or has ended has no \
+         message"),
     (31, "request would be refused 2 to 10, has the discovery bit, or its tag is not (offering) the one \
          after the newest, or (sending, taking) that of a waiting message not yet answered"),
     (32, "answer length 0, not a multiple of 4, or over {bytes}"),
@@ -86,9 +90,10 @@ pub const TABLE: [(u32, &str); 27] = [
     (34, "later byte 0 differs, reserved or bits 15:12 set, status 3 or more, or count wrong (nonzero \
          status: count 0)"),
     (35, "a header or body past the end, LAST missing or early, or words after it"),
-    (36, "offering while four wait"),
+    (36, "offering while four wait; of the training table, while one does"),
     (37, "sender record's next tag over 15, or more than four waiting"),
     (38, "discovery status not OK, or word 1 has bits above 4 set, or bit 4 clear and a tag nonzero"),
+    (40, "a set-up with room for fewer than 193 words, a start not a multiple of 4 or an end past 2^32"),
 ];
 
 /// The sentence for a number, with the limit in figures; none for a number that is no refusal.

@@ -39,6 +39,10 @@ impl Sender {
         Sender { record, places: [const { Place::EMPTY }; PLACES] }
     }
 
+    pub(crate) fn into_record(self) -> ffi::Sender {
+        self.record
+    }
+
     /// The tag of the message to offer: the one after the newest.
     pub fn new_tag(&self) -> u32 {
         tag_behind(self.record, self.waiting())

@@ -1,6 +1,6 @@
 //! The refusals in words: document 01's, in Rust and in the C header alike.
 
-use charkhavo_host::limits::{PLACES, WORDS};
+use charkhavo_host::limits::{self, PLACES, WORDS};
 use charkhavo_host::refusal::{limited, sentence, TABLE};
 use charkhavo_host::Refusal;
 use std::fs;
@@ -8,7 +8,7 @@ use std::fs;
 #[test]
 fn each_number_of_document_01_has_a_sentence_and_no_other() {
     let numbers: Vec<u32> = TABLE.iter().map(|(number, _)| *number).collect();
-    let expected: Vec<u32> = (1..=12).chain(21..=26).chain(30..=38).collect();
+    let expected: Vec<u32> = (1..=12).chain(21..=26).chain(30..=38).chain([40]).collect();
     assert_eq!(numbers, expected);
     for number in 0..100 {
         assert_eq!(sentence(number).is_some(), expected.contains(&number));
@@ -33,6 +33,8 @@ fn the_header_has_the_limits_and_each_number_and_its_sentence() {
     let header = header.split_whitespace().collect::<Vec<&str>>().join(" ");
     assert!(header.contains(&format!("#define CHARKHAVO_WORDS {WORDS} ")));
     assert!(header.contains(&format!("#define CHARKHAVO_PLACES {PLACES} ")));
+    assert!(header.contains(&format!("#define CHARKHAVO_TABLE_WORDS {} ", limits::TABLE)));
+    assert!(header.contains(&format!("#define CHARKHAVO_ROWS_WORDS {} ", 7 * limits::ROWS)));
     for (number, words) in TABLE {
         let words = limited(words, "CHARKHAVO_WORDS", "CHARKHAVO_BYTES");
         let said = format!("/* {words} */ #define CHARKHAVO_REFUSED_");

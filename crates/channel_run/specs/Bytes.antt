@@ -1,9 +1,9 @@
 -- A message or an answer as the programs hold it, and a message of one command. Assumes nothing.
-use Prim.Native.Nat.{ℕ, _*_}
+use Prim.Native.Nat.{ℕ, _*_, _%_}
 use mathlib.Core.Bool.{false, cond}
 use mathlib.Core.List.{List, [], _∷_}
-use lib.Dec.{ltb}
-use lib.ListN.{length, take, replicate}
+use lib.Dec.{ltb, eqb}
+use lib.ListN.{length, getD, set, take, replicate}
 use Rattle.header.specs.Limits.{limit, limitBytes}
 use Rattle.building.specs.declared.asked.Asked.{Asked}
 use Rattle.building.specs.Build.{begun, added, addedTo, closed, closedTo}
@@ -22,6 +22,13 @@ zeros = replicate limitBytes 0
 
 abbrev pub noBytes : Bytes
 noBytes = firstOf zeros 0
+
+-- a channel of eight places: what stands at a number, modulo 8, and the channel with a datagram there, where it is one
+unfoldable pub placeOf : List Bytes → ℕ → Bytes
+placeOf channel i = getD channel (i % 8) (firstOf [] 0)
+
+unfoldable pub placed : List Bytes → ℕ → Bytes → List Bytes
+placed channel i datagram = cond (eqb (datagram .n) 0) channel (set channel (i % 8) datagram)
 
 -- one command, with this word as its data: begun, added and closed in an output of zeros; nothing where the record then
 -- says more words than the limit

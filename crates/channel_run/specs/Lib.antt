@@ -2,3 +2,4 @@
 -- `loader` has no file: its contracts cite `initiator`.
 pub mod Bytes
 pub mod Controller
+pub mod Script

@@ -34,11 +34,10 @@ impl Controller {
 fn say_served(number: u32, sent: usize) {
     show::number(b": refusal ", number as u64);
     show::number(b", bytes ", sent as u64);
-    show::say(b":");
 }
 
 // A datagram comes to the controller, which has this memory.
-pub fn serves(memory: &mut [u32], c: Controller, datagram: &[u8]) -> Arrived
+pub fn serve(memory: &mut [u32], c: Controller, datagram: &[u8]) -> Arrived
     ensures { λ r. ⌜ (r ≡ arrivedBy (afterIn (now (memory .entry)) c (now (datagram .entry)))) ×
         (now (memory .exit) ≡ afterIn (now (memory .entry)) c (now (datagram .entry)) .controller .memory) ⌝ }
 {
@@ -50,9 +49,21 @@ pub fn serves(memory: &mut [u32], c: Controller, datagram: &[u8]) -> Arrived
     let n = served.sent;
     let refusal = served.refusal;
     say_served(refusal.number, n);
-    show::bytes(show::front(&bytes, n));
     Arrived {
         controller: Controller { stored, kept, tags },
         answer: Bytes { bytes, n },
     }
+}
+
+// The same, and its answer is shown.
+pub fn serves(memory: &mut [u32], c: Controller, datagram: &[u8]) -> Arrived
+    ensures { λ r. ⌜ (r ≡ arrivedBy (afterIn (now (memory .entry)) c (now (datagram .entry)))) ×
+        (now (memory .exit) ≡ afterIn (now (memory .entry)) c (now (datagram .entry)) .controller .memory) ⌝ }
+{
+    let arrived = serve(memory, c, datagram);
+    let answer = arrived.answer;
+    let bytes = answer.bytes;
+    show::say(b":");
+    show::bytes(show::front(&bytes, answer.n));
+    arrived
 }

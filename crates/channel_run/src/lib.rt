@@ -4,13 +4,14 @@
 // No contract can say what is written. What only prints is safe, ends, and reads what it is lent; what a call gives,
 // its contract says.
 ghost use mathlib.Core.Path.{_≡_};
-ghost use Rattle.channel_run.specs.Bytes.{noBytes, composed};
+ghost use Rattle.channel_run.specs.Bytes.{noBytes, placeOf, placed, composed};
 use building::asked::Asked;
 use building::build;
 use header::limits;
 
 pub mod controller;
 pub mod loader;
+pub mod script;
 
 // Line i of a text, and a number behind it.
 fn number(labels: &[u8], i: usize, n: u32) {
@@ -43,6 +44,24 @@ impl Bytes {
             n: 0,
         }
     }
+}
+
+// What is in a channel of eight places at this number, modulo 8.
+pub fn of(channel: [Bytes; 8], i: u32) -> Bytes
+    ensures { λ r. ⌜ r ≡ placeOf channel i ⌝ }
+{
+    channel[(i % 8) as usize]
+}
+
+// The channel with this datagram there, where it is one.
+pub fn with(channel: [Bytes; 8], i: u32, datagram: Bytes) -> [Bytes; 8]
+    ensures { λ r. ⌜ r ≡ placed channel i datagram ⌝ }
+{
+    let mut then = channel;
+    if datagram.n > 0 {
+        then[(i % 8) as usize] = datagram;
+    }
+    then
 }
 
 pub const WRITE: u32 = 1;

@@ -1,7 +1,7 @@
 -- The contracts of both ends' calls are determined: each is an equation, whose other side is of what came in. Assumes
 -- nothing.
 use mathlib.Core.Path.{sym, _∙_}
-use Rattle.determined.specs.Public.{Controlling, Building, Sending, InC}
+use Rattle.determined.specs.Public.{Controlling, Building, Sending, Training, InC}
 use Rattle.determined.proofs.Equal.{both, one-of, first-of, two-of}
 
 pub controlling : Controlling
@@ -25,6 +25,7 @@ building =
 pub sending : Sending
 sending =
     record {
+      sender-ok = λ M 𝓤 H A mem run κs a g one other. one-of 𝓤;
       refusal-of = λ M 𝓤 H A mem run κs a g one other. one-of 𝓤;
       ask = λ M 𝓤 H A mem run κs a g one other. one-of 𝓤;
       ask-as = λ M 𝓤 H A mem run κs a g one other. one-of 𝓤;
@@ -39,6 +40,17 @@ sending =
       ended = λ M 𝓤 H A mem run κs a g one other. one-of 𝓤;
       read-span = λ M 𝓤 H A mem run κs a g one other. first-of 𝓤;
       read-data = λ M 𝓤 H A mem run κs a g one other. both 𝓤 (λ p q. p .place ∙ sym (q .place));
+    }
+
+pub training : Training
+training =
+    record {
+      set-up = λ M 𝓤 H A mem run κs a g one other. one-of 𝓤;
+      row-of = λ M 𝓤 H A mem run κs a g one other. one-of 𝓤;
+      write = λ M 𝓤 H A mem run κs a g one other. two-of 𝓤;
+      begin = λ M 𝓤 H A mem run κs a g one other. one-of 𝓤;
+      message = λ M 𝓤 H A mem run κs a g one other. two-of 𝓤;
+      take = λ M 𝓤 H A mem run κs a g one other. one-of 𝓤;
     }
 
 pub in-c : InC
@@ -57,4 +69,8 @@ in-c =
       count = λ M 𝓤 H A mem run κs a g one other. one-of 𝓤;
       status = λ M 𝓤 H A mem run κs a g one other. one-of 𝓤;
       read-data = λ M 𝓤 H A mem run κs a g one other. first-of 𝓤;
+      set-up = λ M 𝓤 H A mem run κs a g one other. one-of 𝓤;
+      attempt = λ M 𝓤 H A mem run κs a g one other. one-of 𝓤;
+      table-message = λ M 𝓤 H A mem run κs a g one other. two-of 𝓤;
+      table-take = λ M 𝓤 H A mem run κs a g one other. one-of 𝓤;
     }

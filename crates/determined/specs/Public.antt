@@ -23,6 +23,7 @@ use Rattle.controller.proofs.charkhavo_serve as ServeInPlace
 use Rattle.building.proofs.build.begin as Begin
 use Rattle.building.proofs.build.add as Add
 use Rattle.building.proofs.build.close as Close
+use Rattle.initiator.proofs.places.sender_ok as SenderOk
 use Rattle.initiator.proofs.asking.refusal_of as RefusalOf
 use Rattle.initiator.proofs.asking.ask as Ask
 use Rattle.initiator.proofs.asking.ask_as as AskAs
@@ -37,6 +38,12 @@ use Rattle.initiator.proofs.outcome.answered as Answered
 use Rattle.initiator.proofs.outcome.ended as EndedBy
 use Rattle.initiator.proofs.outcome.read_span as ReadSpan
 use Rattle.initiator.proofs.outcome.read_data as ReadData
+use Rattle.layout.proofs.set_up as SetUp
+use Rattle.layout.proofs.row_of as RowOf
+use Rattle.layout.proofs.writing.write as Write
+use Rattle.table.proofs.attempt.Attempt.begin as BeginAttempt
+use Rattle.table.proofs.attempt.message as Message
+use Rattle.table.proofs.attempt.take as TakeOn
 use Rattle.loader.specs.Build.{leaves}
 use Rattle.loader.proofs.build.charkhavo_refusal as RefusalInC
 use Rattle.loader.proofs.build.charkhavo_begin as BeginInC
@@ -51,6 +58,10 @@ use Rattle.loader.proofs.sending.charkhavo_take as TakeInC
 use Rattle.loader.proofs.outcome.charkhavo_count as CountInC
 use Rattle.loader.proofs.outcome.charkhavo_status as StatusInC
 use Rattle.loader.proofs.outcome.charkhavo_read_data as ReadDataInC
+use Rattle.loader.proofs.training.charkhavo_set_up as SetUpInC
+use Rattle.loader.proofs.training.charkhavo_attempt as AttemptInC
+use Rattle.loader.proofs.training.charkhavo_table_message as MessageInC
+use Rattle.loader.proofs.training.charkhavo_table_take as TakeOnInC
 
 -- A contract, by its clauses, in any model of the program logic.
 abbrev pub Contract : Ended → Type 2
@@ -109,6 +120,7 @@ pub record Building : Type 2 where
 
 -- Sending and outcomes: nothing that is lent can be changed. A part that comes back is its bytes.
 pub record Sending : Type 2 where
+  pub sender-ok : Determined SenderOk.ended (λ M. SenderOk.clauses) (λ κs r e. r)
   pub refusal-of : Determined RefusalOf.ended (λ M. RefusalOf.clauses) (λ κs r e. r)
   pub ask : Determined Ask.ended (λ M. Ask.clauses) (λ κs r e. r)
   pub ask-as : Determined AskAs.ended (λ M. AskAs.clauses) (λ κs r e. r)
@@ -123,6 +135,15 @@ pub record Sending : Type 2 where
   pub ended : Determined EndedBy.ended (λ M. EndedBy.clauses) (λ κs r e. r)
   pub read-span : Determined ReadSpan.ended (λ M. ReadSpan.clauses) (λ κs r e. r)
   pub read-data : Determined ReadData.ended (λ M. ReadData.clauses) (λ κs r e. now r)
+
+-- The training table: where it stands, its rows and messages, and an attempt at loading it.
+pub record Training : Type 2 where
+  pub set-up : Determined SetUp.ended (λ M. SetUp.clauses) (λ κs r e. r)
+  pub row-of : Determined RowOf.ended (λ M. RowOf.clauses) (λ κs r e. r)
+  pub write : Determined Write.ended (λ M. Write.clauses) (λ κs r e. beside r (now (e .0)))
+  pub begin : Determined BeginAttempt.ended (λ M. BeginAttempt.clauses) (λ κs r e. r)
+  pub message : Determined Message.ended (λ M. Message.clauses) (λ κs r e. beside r (now (e .0)))
+  pub take : Determined TakeOn.ended (λ M. TakeOn.clauses) (λ κs r e. r)
 
 -- The same for C, the building record lent and changed in place.
 pub record InC : Type 2 where
@@ -140,3 +161,7 @@ pub record InC : Type 2 where
   pub count : Determined CountInC.ended (λ M. CountInC.clauses) (λ κs r e. r)
   pub status : Determined StatusInC.ended (λ M. StatusInC.clauses) (λ κs r e. r)
   pub read-data : Determined ReadDataInC.ended (λ M. ReadDataInC.clauses) (λ κs r e. r)
+  pub set-up : Determined SetUpInC.ended (λ M. SetUpInC.clauses) (λ κs r e. r)
+  pub attempt : Determined AttemptInC.ended (λ M. AttemptInC.clauses) (λ κs r e. r)
+  pub table-message : Determined MessageInC.ended (λ M. MessageInC.clauses) (λ κs r e. beside r (now (e .0)))
+  pub table-take : Determined TakeOnInC.ended (λ M. TakeOnInC.clauses) (λ κs r e. r)

@@ -51,19 +51,25 @@ answer-is {c} d =
     ap sentIn a ∙ ap some (words-front (d .lent) (discoveryAnswer (markOf (e .tags)))) in
     Option·some-injective _ _ (sym (d .given) ∙ g) ∙ ap (λ (t : TagRecord). bytesOf (discoveryAnswer (markOf t))) (d .since)
 
-pub begins : (c : Controller) (s : Loader) → Begins c s → Start ends terms sight c s
-begins c s b = started (made (b .pair))
+sender-made : (c : Controller) (s : Loader) → Begins c s → s .sender ≡ madeBy c
+sender-made c s b = go (b .pair)
   where
-    made : FreshPair c s ⊎ Discovered c s → s .sender ≡ madeBy c
-    made (inl f) = f .sender ∙ fresh-made c (b .sound) (f .tags)
-    made (inr d) =
-        d .sender ∙ ap (λ (a : List ℕ). startOf a .sender) (answer-is d) ∙ ap (λ (r : Moved). r .sender) (started-at (markOf (c .tags)) (omega (arith, mark-small (c .tags) (b .sound .tags))))
+    go : FreshPair c s ⊎ Discovered c s → s .sender ≡ madeBy c
+    go (inl f) = f .sender ∙ fresh-made c (b .sound) (f .tags)
+    go (inr d) =
+        d .sender ∙ ap (λ (a : List ℕ). startOf a .sender) (answer-is d)
+        ∙ ap (λ (r : Moved). r .sender)
+        (started-at (markOf (c .tags)) (omega (arith, mark-small (c .tags) (b .sound .tags))))
         ∙ mark-made c (b .sound)
 
-    started : s .sender ≡ madeBy c → Start ends terms sight c s
-    started e =
-        record {
-          sound = b .sound;
-          nothing = ap seen (b .nothing);
-          next = rw (e, b .nothing);
-        }
+-- none waits
+pub begins-idle : (c : Controller) (s : Loader) → Begins c s → s .sender .waiting ≡ 0
+begins-idle c s b = ap (λ (x : Sender). x .waiting) (sender-made c s b)
+
+pub begins : (c : Controller) (s : Loader) → Begins c s → Start ends terms sight c s
+begins c s b =
+    record {
+      sound = b .sound;
+      nothing = ap seen (b .nothing);
+      next = rw (sender-made c s b, b .nothing);
+    }

@@ -99,7 +99,7 @@ Lends (arrive j b ∷ es) = Lendable b × Lends es
 Lends (back n ∷ es) = Lends es
 Lends (other x b ∷ es) = Lendable b × Lends es
 
-lends-first : (e : Event ends) (es : List (Event ends)) → Lends (e ∷ es) → LentAt e × Lends es
+pub lends-first : (e : Event ends) (es : List (Event ends)) → Lends (e ∷ es) → LentAt e × Lends es
 lends-first (offer d) es l = (tt, l)
 lends-first (send p) es l = (tt, l)
 lends-first (arrive j b) es l = l
@@ -173,7 +173,7 @@ abbrev bytes? : Option (List ℕ) → Bool
 bytes? none = true
 bytes? (some x) = below? 256 x
 
-abbrev whole? : World ends → Event ends → Bool
+abbrev pub whole? : World ends → Event ends → Bool
 whole? w (offer d) = true
 whole? w (send p) = true
 whole? w (arrive j b) = bytes? ((sent ends w j) .1)
@@ -193,7 +193,7 @@ quickly w (back n) = step ends window w (back n)
 quickly w (other x b) = gave ends w stranger (w .taken) (serveBy quick (w .controller) b x)
 
 -- it is the event, and an allowed controller stays allowed
-quickly-is : (w : World ends) (e : Event ends) → Sound (w .controller) → LentAt e → whole? w e ≡ true
+pub quickly-is : (w : World ends) (e : Event ends) → Sound (w .controller) → LentAt e → whole? w e ≡ true
     → (step ends window w e ≡ quickly w e) × Sound (quickly w e .controller)
 quickly-is w (offer d) h l y = (refl, h)
 quickly-is w (send p) h l y = (refl, h)

@@ -1,9 +1,10 @@
 -- What crosses the channel: a plain message is read as it was written, its own answer is judged to say its outcome, and any other
 -- answer is 33. The facts of both ends cite these. Assumes nothing.
-use Prim.Native.Nat.{ℕ, zero, suc}
+use Prim.Native.Nat.{ℕ, zero, suc, _≤_}
 use mathlib.Core.Path.{_≡_, refl, sym, ap, _∙_, fun-ext}
 use mathlib.Core.Bool.{Bool, true, false}
 use mathlib.Core.List.{List, [], _∷_}
+use native.Mathlib.Omega.{arith}
 use native.Mathlib.Decide.{ℕ-discrete}
 use lib.ListN.{length, getD}
 use Rattle.header.specs.declared.Kind.{Kind}
@@ -21,11 +22,13 @@ use Rattle.answer.proofs.Laws.Heads.{answer-tag, answer-discovery}
 use Rattle.answer.proofs.Laws.Accepts.{judge-encoded, other-byte}
 use Rattle.answer.proofs.Laws.Looking.{judge-long}
 use Rattle.carrying.specs.Answers.{failed, answerTo}
-use Rattle.initiator.specs.Outcome.{judgedBy}
-use Rattle.initiator.proofs.Laws.Outcomes.{judged-plain, ending-first, ending-next, data-first, data-next}
-use Rattle.exchange.specs.Outcomes.{Outcome, each, toldAt, told, resultOf, resultsIn, outcomeOver}
+use Rattle.initiator.specs.declared.outcome.Ending.the-variants.{Absent}
+use Rattle.initiator.specs.Outcome.{judgedBy, countIn}
+use Rattle.initiator.proofs.Laws.Outcomes.{judged-plain, ending-none, data-none, ending-first, ending-next, data-first, data-next}
+use Rattle.exchange.specs.Outcomes.{Result, Outcome, each, toldAt, told, resultOf, resultsIn, outcomeOver}
 use Rattle.exchange.specs.Terms.{Plain}
 use Rattle.exchange.specs.Sight.{Encodes, Answers}
+use Rattle.exchange.proofs.Each.{each-or}
 
 -- a plain message asks for its request, which fits; its first byte is byte 0
 module _ {d : List ℕ} (p : Plain d) where
@@ -89,6 +92,15 @@ result-at kind [] (suc k) = refl
 result-at kind (a ∷ more) zero = refl
 result-at kind (a ∷ more) (suc k) = result-at kind more k
 
+-- results one by one
+pub results-none : (kind : Kind) → resultsIn kind [] ≡ []
+unfolding resultsIn
+results-none kind = refl
+
+pub results-more : (kind : Kind) (a : Answered) (more : List Answered) → resultsIn kind (a ∷ more) ≡ resultOf kind a ∷ resultsIn kind more
+unfolding resultsIn
+results-more kind a more = refl
+
 -- the outcome of carrying out a message is that of its request
 pub outcome-by : (memory message : List ℕ)
     → outcomeOver memory message ≡ resultsIn (kindOf (requestOf message .byte0)) (answerTo (requestOf message) 0 memory)
@@ -106,6 +118,25 @@ each-told message (a ∷ more) = rw (ending-first a more, data-first a more kind
 
     next : (k : ℕ) → toldAt message (Means (a ∷ more)) (suc k) ≡ toldAt message (Means more) k
     next k = rw (ending-next a more k, data-next a more kind k)
+
+-- what the loader is told of command k is what the outcome functions tell of it; of one that was not answered, nothing
+abbrev nothing : Result
+nothing = record { ending = Absent; words = [] }
+
+none-past : (message : List ℕ) (items : List Answered) (k : ℕ) → length items ≤ k → toldAt message (Means items) k ≡ nothing
+none-past message [] k l = rw (ending-none k, data-none (kindOf (getD message 0 0)) k)
+none-past message (a ∷ more) zero l = absurd (omega arith)
+none-past message (a ∷ more) (suc k) l =
+    rw (ending-next a more k, data-next a more (kindOf (getD message 0 0)) k) (none-past message more k (omega arith))
+
+pub told-at : (message answer : List ℕ) (k : ℕ)
+    → getD (told message answer) k (record { ending = Absent; words = [] }) ≡ toldAt message (judgedBy (read message) answer) k
+unfolding told
+told-at message answer k = go (judgedBy (read message) answer)
+  where
+    go : (p : Reading (List Answered)) → getD (each (countIn p) (toldAt message p)) k nothing ≡ toldAt message p k
+    go (Refused r) = each-or 0 (toldAt message (Refused r)) k nothing (λ j l. refl)
+    go (Means items) = each-or (length items) (toldAt message (Means items)) k nothing (none-past message items)
 
 module _ {d : List ℕ} (p : Plain d) {o : Outcome} {a : List ℕ} (h : Answers d o a) where
   -- a message's own answer is judged to be the answers given

@@ -1,10 +1,10 @@
 -- What a function gives at each of so many places: `each` of specs/Outcomes.antt. Assumes nothing.
 use Prim.Native.Nat.{ℕ, zero, suc, _≤_, _<_}
-use mathlib.Core.Path.{_≡_, refl, ap}
+use mathlib.Core.Path.{_≡_, refl, sym, ap}
 use mathlib.Core.Option.{some}
 use mathlib.Core.List.{_∷_}
 use native.Mathlib.Omega.{arith}
-use lib.ListN.{length, getElem?, take}
+use lib.ListN.{length, getD, getElem?, take}
 use Rattle.exchange.specs.Outcomes.{each}
 
 module _ {A : Type 0} where
@@ -25,6 +25,13 @@ module _ {A : Type 0} where
   each-in zero f j x e = let z : _≡_ {A = ℕ} 0 1 = cc in absurd (omega arith)
   each-in (suc n) f zero x e = (omega arith, cc)
   each-in (suc n) f (suc j) x e = let r = each-in n (λ k. f (suc k)) j x e in (omega (arith, r .0), r .1)
+
+  -- what is read at any place, where the function gives z behind the last
+  pub each-or : (n : ℕ) (f : ℕ → A) (k : ℕ) (z : A) → ((j : ℕ) → n ≤ j → f j ≡ z) → getD (each n f) k z ≡ f k
+  unfolding each
+  each-or zero f k z h = sym (h k (omega arith))
+  each-or (suc n) f zero z h = refl
+  each-or (suc n) f (suc k) z h = each-or n (λ j. f (suc j)) k z (λ j l. h (suc j) (omega arith))
 
   -- two functions that give the same
   pub each-same : (n : ℕ) (f g : ℕ → A) → ((j : ℕ) → j < n → f j ≡ g j) → each n f ≡ each n g

@@ -57,7 +57,7 @@ impl Refusal {
 
     // The sender.
 
-    // Sending or taking an answer while none waits.
+    // Sending or taking an answer while none waits; a training table that is done or has ended has no message.
     pub const NONE_WAITS: u32 = 30;
     // The request would be refused 2 to 10, has the discovery bit, or its tag is not the one to offer; of one that is
     // sent or whose answer is taken, not that of a message that waits and is not answered.
@@ -70,12 +70,17 @@ impl Refusal {
     pub const ANSWER_HEADER: u32 = 34;
     // A header or a body past the end, LAST missing or early, or words after it.
     pub const ANSWER_END: u32 = 35;
-    // Offering while four wait.
-    pub const FOUR_WAIT: u32 = 36;
+    // Offering while four wait; of the training table, while one does.
+    pub const OFFERING: u32 = 36;
     // The sender record's next tag is over 15, or more than four wait.
     pub const SENDER: u32 = 37;
     // The discovery's status is not OK, or its word 1 is no stored tag.
     pub const DISCOVERY: u32 = 38;
+
+    // The training table.
+
+    // Room for fewer than 193 words, a start that is no multiple of 4, or an end past 2^32.
+    pub const SET_UP: u32 = 40;
 
     // The refusal of this number, with index 0.
     pub fn of(number: u32) -> Refusal

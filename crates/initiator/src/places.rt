@@ -16,7 +16,7 @@ pub const MOST: u8 = 4;
 const TAGS: u8 = limits::TAGS as u8;
 
 // Whether the record is one: not 37.
-pub(crate) fn sender_ok(sender: Sender) -> bool
+pub fn sender_ok(sender: Sender) -> bool
     ensures { λ r. ⌜ r ≡ senderOk sender ⌝ }
 {
     if TAGS <= sender.next {

@@ -142,7 +142,7 @@ fn offering(sender: Sender, message: &[u8]) -> Asking
         return Asking::Refused(Refusal::of(Refusal::SENDER));
     }
     if !places::has_room(sender) {
-        return Asking::Refused(Refusal::of(Refusal::FOUR_WAIT));
+        return Asking::Refused(Refusal::of(Refusal::OFFERING));
     }
     asking::ask_as(places::new_tag(sender) as u32, message)
 }

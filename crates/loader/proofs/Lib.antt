@@ -1,3 +1,4 @@
 -- Facts that belong to no one function.
 pub mod Laws
 pub mod InPlace
+pub mod ByNumbers

@@ -56,25 +56,11 @@ fn begins(life: u32, controller: Controller, memory: [u32; 3]) -> Night {
     }
 }
 
-// What is in the channel at number i.
-fn of(channel: [Bytes; 8], i: u32) -> Bytes {
-    channel[(i % 8) as usize]
-}
-
-// The channel with this datagram there, where it is one.
-fn with(channel: [Bytes; 8], i: u32, datagram: Bytes) -> [Bytes; 8] {
-    let mut then = channel;
-    if datagram.n > 0 {
-        then[(i % 8) as usize] = datagram;
-    }
-    then
-}
-
 // Message i is sent.
 fn sends(mut night: Night, i: u32) -> Night {
     let message = messages::compose(night.life, night.first, i);
     let before = night.requests;
-    let requests = with(before, i, loader::send(night.sender, message));
+    let requests = channel_run::with(before, i, loader::send(night.sender, message));
     night.requests = requests;
     night
 }
@@ -107,7 +93,7 @@ fn comes(mut night: Night, i: u32, datagram: &[u8]) -> Night {
     night.carried = counted(night.carried, c.tags, then.tags);
     night.controller = then;
     let before = night.answers;
-    let answers = with(before, i, arrived.answer);
+    let answers = channel_run::with(before, i, arrived.answer);
     night.answers = answers;
     night
 }
@@ -115,7 +101,7 @@ fn comes(mut night: Night, i: u32, datagram: &[u8]) -> Night {
 // What was sent of message i comes.
 fn late(night: Night, i: u32) -> Night {
     let requests = night.requests;
-    let request = of(requests, i);
+    let request = channel_run::of(requests, i);
     let bytes = request.bytes;
     comes(night, i, show::front(&bytes, request.n))
 }
@@ -151,13 +137,17 @@ fn fresh(night: Night) -> Night {
 // The answer to datagram i comes to the loader as that to its discovery.
 fn hears(night: Night, i: u32) -> Night {
     let answers = night.answers;
-    starts(night, loader::hear(of(answers, i)))
+    starts(night, loader::hear(channel_run::of(answers, i)))
 }
 
 // The outcome of message i.
 fn tell(life: u32, first: u32, answers: [Bytes; 8], i: u32) {
     show::say(b"  ");
-    loader::tell(i, messages::compose(life, first, i), of(answers, i));
+    loader::tell(
+        i,
+        messages::compose(life, first, i),
+        channel_run::of(answers, i),
+    );
 }
 
 // The outcomes of the messages that ended, the oldest first.
@@ -174,7 +164,7 @@ fn back(mut night: Night, i: u32) -> Night {
     let answers = night.answers;
     let lent = if i < 5 { i } else { night.done as u32 };
     let message = messages::compose(night.life, night.first, lent);
-    let taken = loader::take(night.sender, message, of(answers, i));
+    let taken = loader::take(night.sender, message, channel_run::of(answers, i));
     tell_all(night.life, night.first, answers, night.done, taken.ended);
     let s = taken.sender;
     night.sender = s;

@@ -7,14 +7,11 @@
 //   h5  the last answer to 5 comes to the loader, which takes it for that to its own discovery; h6, h7: that to 6, 7
 //   e0  a restart ends the life, e1 a reset of the controller; e2 the night is over
 // "Comes" alone is: to the controller. What never comes is lost.
+use channel_run::script;
+use channel_run::script::Event;
 
 // All events of the night.
 pub(crate) const EVENTS: u32 = 143;
-
-pub(crate) struct Event {
-    pub(crate) kind: u8,
-    pub(crate) i: u32,
-}
 
 // The line that says what an event is called.
 fn line_of(kind: u8) -> usize {
@@ -53,23 +50,9 @@ life ",
     }
 }
 
-// The event at this byte, which is none behind the script.
-fn read_at(script: &[u8], at: usize) -> Event {
-    if script.len() <= at {
-        return Event { kind: b' ', i: 0 };
-    }
-    if script.len() - at < 2 {
-        return Event { kind: b' ', i: 0 };
-    }
-    Event {
-        kind: script[at],
-        i: (script[at + 1] % 16) as u32,
-    }
-}
-
 // An event of the night, counted from 0.
 pub(crate) fn nth(t: u32) -> Event {
-    read_at(
+    script::read_at(
         b"f0 o0 o1 o2 o3 a0 a2 a1 a0 b0 e0
 x7 x6 x7 e0
 q5 x7 x6 d5 e1

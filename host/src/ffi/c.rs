@@ -1,7 +1,7 @@
 //! The declarations of `include/charkhavo.h`, in its order: the records as C lays them out, and
 //! the libraries' functions. What each means stands there.
 
-use crate::limits::PLACES;
+use crate::limits::{Rows, PLACES};
 
 // Lengths are 64 bits wide in the libraries, on every processor; here they are `usize`.
 const _: () = assert!(usize::BITS == 64);
@@ -88,7 +88,31 @@ pub struct Part {
     pub length: usize,
 }
 
-// A slice is passed as its pointer and its length.
+#[repr(C)]
+#[derive(Clone, Copy, Debug, PartialEq, Eq)]
+pub struct TableAttempt {
+    pub sender: Sender,
+    pub stage: u8,
+    pub row: u8,
+}
+
+#[repr(C)]
+#[derive(Clone, Copy, Debug, PartialEq, Eq)]
+pub struct TableMade {
+    pub refusal: u32,
+    pub length: u32,
+    pub attempt: TableAttempt,
+}
+
+#[repr(C)]
+#[derive(Clone, Copy, Debug, PartialEq, Eq)]
+pub struct TableTaken {
+    pub refusal: Refused,
+    pub attempt: TableAttempt,
+}
+
+// A slice is passed as its pointer and its length; the rows of a table, whose length is fixed, as
+// their pointer.
 
 extern "C" {
     // libcontroller.a
@@ -173,4 +197,22 @@ extern "C" {
         answer_length: usize,
         k: usize,
     ) -> Part;
+    pub(super) fn charkhavo_set_up(start: u64, room: u64) -> u32;
+    pub(super) fn charkhavo_attempt(sender: Sender) -> TableAttempt;
+    pub(super) fn charkhavo_table_message(
+        output: *mut u8,
+        output_length: usize,
+        attempt: TableAttempt,
+        start: u64,
+        room: u64,
+        rows: *const Rows,
+    ) -> TableMade;
+    pub(super) fn charkhavo_table_take(
+        attempt: TableAttempt,
+        message: *const u8,
+        message_length: usize,
+        answer: *const u8,
+        answer_length: usize,
+        rows: *const Rows,
+    ) -> TableTaken;
 }

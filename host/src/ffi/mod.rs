@@ -7,7 +7,8 @@
 //! lengths. What a library may change comes as `&mut`, so nothing else refers to it during the
 //! call. Every value of a byte, a word or a number is a value of its Rust type, and a `bool`
 //! that a library gives back is 0 or 1, being one of its own or the caller's. The records
-//! are laid out as the libraries lay them out (`repr(C)` on both sides).
+//! are laid out as the libraries lay them out (`repr(C)` on both sides), and the rows of a table one
+//! behind another, as an array of all their words is.
 
 #![allow(unsafe_code)]
 
@@ -17,8 +18,9 @@ mod c;
 
 pub use c::TagRecord;
 pub use c::{Building, Discovery, Moved, Part, Refused, Sender, Sending, Sent, Taken};
+pub use c::{TableAttempt, TableMade, TableTaken};
 
-use crate::limits::PLACES;
+use crate::limits::{Rows, PLACES};
 use crate::refusal::Refusal;
 
 impl Refused {
@@ -189,4 +191,37 @@ pub fn read_data(request: &[u8], answer: &[u8], k: usize) -> Part {
     let (back, length) = (answer.as_ptr(), answer.len());
     // Sound: both are only read; `k` may be any number.
     unsafe { c::charkhavo_read_data(request.as_ptr(), request.len(), back, length, k) }
+}
+
+/// The refusal of a table's set-up, 40; 0 for none.
+pub fn set_up(start: u64, room: u64) -> u32 {
+    // Sound: nothing is lent.
+    unsafe { c::charkhavo_set_up(start, room) }
+}
+
+/// The attempt that begins with a sender.
+pub fn attempt(sender: Sender) -> TableAttempt {
+    // Sound: the record goes by value.
+    unsafe { c::charkhavo_attempt(sender) }
+}
+
+/// The next message of an attempt, in the output, and offered: 40, 37, 36, 30, 21.
+pub fn table_message(
+    output: &mut [u8],
+    attempt: TableAttempt,
+    start: u64,
+    room: u64,
+    rows: &Rows,
+) -> TableMade {
+    let (bytes, length) = (output.as_mut_ptr(), output.len());
+    // Sound: the output is lent exclusively, the rows only read; the record goes by value.
+    unsafe { c::charkhavo_table_message(bytes, length, attempt, start, room, rows) }
+}
+
+/// Takes an answer to an attempt's message: 37, 30, 31, 32 to 35.
+pub fn table_take(attempt: TableAttempt, message: &[u8], answer: &[u8], rows: &Rows) -> TableTaken {
+    let (sent, length) = (message.as_ptr(), message.len());
+    let (back, back_length) = (answer.as_ptr(), answer.len());
+    // Sound: message, answer and rows are only read; the record goes by value.
+    unsafe { c::charkhavo_table_take(attempt, sent, length, back, back_length, rows) }
 }

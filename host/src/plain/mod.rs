@@ -10,6 +10,7 @@ pub mod controller;
 pub mod message;
 pub mod outcome;
 pub mod sender;
+pub mod table;
 mod tags;
 
 pub use builder::{Addition, Building};

@@ -57,7 +57,7 @@ impl Sender {
     pub fn offer(&mut self, request: &[u8]) -> Result<(), Refusal> {
         self.check_record()?;
         if usize::from(self.waiting) == PLACES {
-            return Err(Refusal::FOUR_WAIT);
+            return Err(Refusal::OFFERING);
         }
         let request = sendable(request)?;
         if self.place_of(&request) != self.waiting.into() {
@@ -105,7 +105,7 @@ impl Sender {
         self.answered[usize::from(self.waiting.max(1)) - 1..].fill(false);
     }
 
-    fn check_record(&self) -> Result<(), Refusal> {
+    pub(super) fn check_record(&self) -> Result<(), Refusal> {
         if self.next > 15 || usize::from(self.waiting) > PLACES {
             Err(Refusal::SENDER)
         } else {

@@ -1,13 +1,14 @@
 //! Inputs for comparing implementations, the same ones from the same seed on every machine.
 //!
 //! `requests` makes requests, whole and damaged; `controller` all that a controller call is
-//! lent; `building` and `sender` what the loader's calls are lent. Most inputs are allowed and
+//! lent; `building`, `sender` and `table` what the loader's calls are lent. Most inputs are allowed and
 //! near an edge, so that the deep rules are met as often as the first checks.
 
 pub mod building;
 pub mod controller;
 pub mod requests;
 pub mod sender;
+pub mod table;
 
 /// A small generator (xorshift64*); good enough to choose tests by.
 #[derive(Clone, Debug)]

@@ -4,3 +4,4 @@
 mod building;
 mod controller;
 mod sender;
+mod table;

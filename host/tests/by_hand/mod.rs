@@ -8,3 +8,5 @@ mod four_held;
 mod four_waiting;
 mod restarts;
 mod sender;
+mod table;
+mod table_ends;

@@ -1,8 +1,9 @@
 //! Two ends made of the calls of any ends and of buffers that stand beside them.
 
-use super::pair::{check_added, Told, TwoEnds};
+use super::pair::{check_added, Loads, Told, TwoEnds};
 use crate::common::{place_of, Ends, Given};
-use charkhavo_host::limits::{BYTES, KEPT, PLACES, STORED};
+use charkhavo_host::limits::{Rows, BYTES, KEPT, PLACES, STORED, TABLE};
+use charkhavo_host::plain::table::Attempt;
 use charkhavo_host::plain::{Addition, Building, Sender, TagRecord};
 use std::marker::PhantomData;
 
@@ -140,5 +141,55 @@ impl<E: Ends> TwoEnds for Bare<E> {
         let told = ended.map(|k| self.told(place_of(oldest + k))).collect();
         self.sender = after;
         Ok(told)
+    }
+}
+
+/// An attempt with its message and what that was made of.
+pub struct BareAttempt {
+    attempt: Attempt,
+    message: Vec<u8>,
+    start: u64,
+    rows: Rows,
+}
+
+impl BareAttempt {
+    /// The next message, if there is one.
+    fn make<E: Ends>(&mut self) {
+        if self.attempt.stage < 4 {
+            let BareAttempt { attempt, start, rows, .. } = *self;
+            self.message.resize(BYTES, 0x88);
+            let room = TABLE as u64;
+            let made = E::table_message(&mut self.message, attempt, start, room, &rows);
+            let (length, attempt) = result(made).expect("a message");
+            self.message.truncate(length);
+            self.attempt = attempt;
+        }
+    }
+}
+
+impl<E: Ends> Loads for Bare<E> {
+    type Attempt = BareAttempt;
+
+    fn begin(&self, start: u64, rows: &Rows) -> BareAttempt {
+        assert_eq!(E::set_up(start, TABLE as u64).number, 0);
+        let attempt = E::attempt(self.sender);
+        let mut begun = BareAttempt { attempt, message: Vec::new(), start, rows: *rows };
+        begun.make::<E>();
+        begun
+    }
+
+    fn message(attempt: &BareAttempt) -> Option<&[u8]> {
+        (attempt.attempt.stage < 4).then_some(&attempt.message)
+    }
+
+    fn take_on(attempt: &mut BareAttempt, answer: &[u8]) -> Result<(), u32> {
+        let taken = E::table_take(attempt.attempt, &attempt.message, answer, &attempt.rows);
+        attempt.attempt = result(taken)?;
+        attempt.make::<E>();
+        Ok(())
+    }
+
+    fn came_to(attempt: &BareAttempt) -> Option<u8> {
+        (attempt.attempt.stage >= 4).then_some(attempt.attempt.row)
     }
 }

@@ -1,6 +1,6 @@
 //! A loader with up to four messages waiting and a controller, over a channel that loses, repeats and
 //! reorders: memory is always what the messages, each carried out once in order, make of it, and
-//! outcomes come in order.
+//! outcomes come in order. And the training table over such a channel, with restarts.
 
 // Each test program has one of the two pairs.
 #[allow(dead_code)]
@@ -9,6 +9,7 @@ mod lives;
 mod met;
 mod pair;
 mod rounds;
+mod table;
 mod world;
 #[allow(dead_code)]
 pub mod wrapped;

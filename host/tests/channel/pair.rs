@@ -1,5 +1,7 @@
-//! Two ends as a program holds them: a controller, a sender, and messages built for it.
+//! Two ends as a program holds them: a controller, a sender, and messages built for it; and an attempt
+//! at the training table, above the sender.
 
+use charkhavo_host::limits::Rows;
 use charkhavo_host::plain::Addition;
 
 /// The status and the read data of each answered command.
@@ -30,6 +32,19 @@ pub trait TwoEnds {
     /// Takes an answer; it is held against the unanswered message whose tag it has, else against the
     /// oldest. Gives what is told of each message that ended, in order of tag.
     fn take(&mut self, answer: &[u8]) -> Result<Vec<Told>, u32>;
+}
+
+pub trait Loads: TwoEnds {
+    type Attempt;
+
+    /// An attempt begins with the sender, and its first message waits.
+    fn begin(&self, start: u64, rows: &Rows) -> Self::Attempt;
+    /// The message that waits, while the attempt goes on.
+    fn message(attempt: &Self::Attempt) -> Option<&[u8]>;
+    /// Takes an answer to it; the next message then waits, if there is one.
+    fn take_on(attempt: &mut Self::Attempt, answer: &[u8]) -> Result<(), u32>;
+    /// The row that an attempt ended with, 0 where it is done; none while it goes on.
+    fn came_to(attempt: &Self::Attempt) -> Option<u8>;
 }
 
 /// Adding is refused only where there is no room.

@@ -1,8 +1,10 @@
 //! Two ends made of the libraries' wrappers.
 
-use super::pair::{check_added, Told, TwoEnds};
+use super::pair::{check_added, Loads, Told, TwoEnds};
 use charkhavo_host::builder::{Builder, Enables, Head, Kind, Nop, Read, Write};
+use charkhavo_host::limits::{Rows, TABLE};
 use charkhavo_host::plain::Addition;
+use charkhavo_host::table::{Attempt, SetUp, State};
 use charkhavo_host::{Controller, Outcome, Refusal, Sender, Status};
 
 pub struct Wrapped {
@@ -83,6 +85,33 @@ impl TwoEnds for Wrapped {
 
     fn take(&mut self, answer: &[u8]) -> Result<Vec<Told>, u32> {
         Ok(self.sender.take(answer).map_err(number)?.map(told).collect())
+    }
+}
+
+impl Loads for Wrapped {
+    type Attempt = Attempt;
+
+    fn begin(&self, start: u64, rows: &Rows) -> Attempt {
+        let set_up = SetUp::new(start, TABLE as u64).expect("a set-up");
+        Attempt::begin(set_up, *rows, self.sender.clone()).expect("an attempt")
+    }
+
+    fn message(attempt: &Attempt) -> Option<&[u8]> {
+        attempt.message()
+    }
+
+    fn take_on(attempt: &mut Attempt, answer: &[u8]) -> Result<(), u32> {
+        let state = attempt.take(answer).map_err(number)?;
+        assert_eq!(state, attempt.state());
+        Ok(())
+    }
+
+    fn came_to(attempt: &Attempt) -> Option<u8> {
+        match attempt.state() {
+            State::Waits => None,
+            State::Done => Some(0),
+            State::Ended(row) => Some(row),
+        }
     }
 }
 

@@ -2,6 +2,8 @@
 //! the refusal (number 0 for none) and the record come out. One trait for all that implement
 //! the rules, so that one test serves them all.
 
+use charkhavo_host::limits::Rows;
+use charkhavo_host::plain::table::Attempt;
 use charkhavo_host::plain::{Addition, Building, Sender, TagRecord};
 use charkhavo_host::Refusal;
 
@@ -45,6 +47,18 @@ pub trait Ends {
     fn status(request: &[u8], answer: &[u8], k: usize) -> u32;
     /// Start and length, in bytes of the answer.
     fn read_data(request: &[u8], answer: &[u8], k: usize) -> (usize, usize);
+
+    fn set_up(start: u64, room: u64) -> Refusal;
+    fn attempt(sender: Sender) -> Attempt;
+    /// The refusal, the length of the message and the attempt.
+    fn table_message(
+        output: &mut [u8],
+        attempt: Attempt,
+        start: u64,
+        room: u64,
+        rows: &Rows,
+    ) -> Given<(usize, Attempt)>;
+    fn table_take(attempt: Attempt, message: &[u8], answer: &[u8], rows: &Rows) -> Given<Attempt>;
 }
 
 /// The status of a command that is not answered.

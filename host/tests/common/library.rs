@@ -2,6 +2,8 @@
 
 use super::ends::{Ends, Given};
 use charkhavo_host::ffi;
+use charkhavo_host::limits::Rows;
+use charkhavo_host::plain::table::Attempt;
 use charkhavo_host::plain::{Addition, Building, Sender, TagRecord};
 use charkhavo_host::Refusal;
 
@@ -93,6 +95,30 @@ impl Ends for Library {
         let ffi::Part { start, length } = ffi::read_data(request, answer, k);
         (start, length)
     }
+
+    fn set_up(start: u64, room: u64) -> Refusal {
+        Refusal::of(ffi::set_up(start, room))
+    }
+
+    fn attempt(sender: Sender) -> Attempt {
+        attempt_left(ffi::attempt(lent(sender)))
+    }
+
+    fn table_message(
+        output: &mut [u8],
+        attempt: Attempt,
+        start: u64,
+        room: u64,
+        rows: &Rows,
+    ) -> Given<(usize, Attempt)> {
+        let made = ffi::table_message(output, attempt_lent(attempt), start, room, rows);
+        (Refusal::of(made.refusal), (made.length as usize, attempt_left(made.attempt)))
+    }
+
+    fn table_take(attempt: Attempt, message: &[u8], answer: &[u8], rows: &Rows) -> Given<Attempt> {
+        let taken = ffi::table_take(attempt_lent(attempt), message, answer, rows);
+        (refusal(taken.refusal), attempt_left(taken.attempt))
+    }
 }
 
 fn refusal(refused: ffi::Refused) -> Refusal {
@@ -123,4 +149,14 @@ fn left(sender: ffi::Sender) -> Sender {
 
 fn moved(moved: ffi::Moved) -> Given<Sender> {
     (refusal(moved.refusal), left(moved.sender))
+}
+
+fn attempt_lent(attempt: Attempt) -> ffi::TableAttempt {
+    let Attempt { sender, stage, row } = attempt;
+    ffi::TableAttempt { sender: lent(sender), stage, row }
+}
+
+fn attempt_left(attempt: ffi::TableAttempt) -> Attempt {
+    let ffi::TableAttempt { sender, stage, row } = attempt;
+    Attempt { sender: left(sender), stage, row }
 }

@@ -9,6 +9,7 @@ pub mod naive;
 pub mod naive_building;
 pub mod naive_ends;
 pub mod naive_sender;
+pub mod naive_table;
 pub mod plain;
 pub mod seen;
 

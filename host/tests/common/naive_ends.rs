@@ -4,7 +4,9 @@ use super::ends::{Ends, Given, ABSENT};
 use super::naive::{self, Wrong};
 use super::naive_building::{added, refused_21, Sequences};
 use super::naive_sender;
-use charkhavo_host::limits::WORDS;
+use super::naive_table;
+use charkhavo_host::limits::{Rows, WORDS};
+use charkhavo_host::plain::table::Attempt;
 use charkhavo_host::plain::{Addition, Building, Sender, TagRecord};
 use charkhavo_host::random::bytes_of;
 use charkhavo_host::random::controller::Lent;
@@ -129,6 +131,37 @@ impl Ends for Naive {
             _ => (0, 0),
         }
     }
+
+    fn set_up(start: u64, room: u64) -> Refusal {
+        refusal(naive_table::set_up(start, room).err().unwrap_or_default())
+    }
+
+    fn attempt(sender: Sender) -> Attempt {
+        let stopped = Sender { next: 16, waiting: 0, answered: [false; 3] };
+        let sender = if sender.waiting == 0 { sender } else { stopped };
+        Attempt { sender, stage: 0, row: 0 }
+    }
+
+    fn table_message(
+        output: &mut [u8],
+        before: Attempt,
+        start: u64,
+        room: u64,
+        rows: &Rows,
+    ) -> Given<(usize, Attempt)> {
+        let made = naive_table::message(output.len(), before, start, room, rows);
+        given(
+            made.map(|(message, after)| {
+                output[..message.len()].copy_from_slice(&message);
+                (message.len(), after)
+            }),
+            (0, before),
+        )
+    }
+
+    fn table_take(before: Attempt, message: &[u8], answer: &[u8], rows: &Rows) -> Given<Attempt> {
+        given(naive_table::take(before, message, answer, rows), before)
+    }
 }
 
 /// The record with these words added, which the output then has.
@@ -156,7 +189,7 @@ fn given<T>(after: Result<T, Wrong>, otherwise: T) -> Given<T> {
 }
 
 /// Each answered command; none where anything is refused.
-fn told(request: &[u8], answer: &[u8]) -> Vec<(u32, usize, usize)> {
+pub fn told(request: &[u8], answer: &[u8]) -> Vec<(u32, usize, usize)> {
     naive_sender::sendable(request, None)
         .and_then(|request| naive_sender::judge(&request, answer))
         .unwrap_or_default()

@@ -1,6 +1,8 @@
 //! The ordinary implementation as ends.
 
 use super::ends::{Ends, Given, ABSENT};
+use charkhavo_host::limits::Rows;
+use charkhavo_host::plain::table::{self, Attempt};
 use charkhavo_host::plain::{self, message, outcome, sender};
 use charkhavo_host::plain::{Addition, Building, Sender, TagRecord};
 use charkhavo_host::Refusal;
@@ -85,6 +87,35 @@ impl Ends for Plain {
     fn read_data(request: &[u8], answer: &[u8], k: usize) -> (usize, usize) {
         let data = outcome::read_data(request, answer, k);
         (data.start, data.len())
+    }
+
+    fn set_up(start: u64, room: u64) -> Refusal {
+        refusal(&table::set_up(start, room))
+    }
+
+    fn attempt(sender: Sender) -> Attempt {
+        Attempt::new(sender)
+    }
+
+    fn table_message(
+        output: &mut [u8],
+        mut attempt: Attempt,
+        start: u64,
+        room: u64,
+        rows: &Rows,
+    ) -> Given<(usize, Attempt)> {
+        let made = attempt.message(output, start, room, rows);
+        (refusal(&made), (made.unwrap_or(0), attempt))
+    }
+
+    fn table_take(
+        mut attempt: Attempt,
+        message: &[u8],
+        answer: &[u8],
+        rows: &Rows,
+    ) -> Given<Attempt> {
+        let taken = attempt.take(message, answer, rows);
+        (refusal(&taken), attempt)
     }
 }
 

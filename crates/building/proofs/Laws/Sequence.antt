@@ -96,15 +96,16 @@ command-fits byte0 w n asked payload l f =
     }
 
 -- what holds after each call: the commands' words stand first, and the record counts them
-record Stands (start : List ℕ) (cs : List Command) (b : Building) (out : List ℕ) : Type 0 where
-  long : limitBytes ≤ length start
-  tag : b .tag < 16
-  all : All (FitsCommand (byte0By b)) cs
-  words : b .words ≡ length (openWords (byte0By b) cs)
-  answer : b .answer ≡ replies (byte0By b) cs
-  most : b .words ≤ limit
-  few : b .answer ≤ limit
-  is : out ≡ putWords start 0 (openWords (byte0By b) cs)
+pub record Stands (start : List ℕ) (cs : List Command) (b : Building) (out : List ℕ) : Type 0 where
+  pub long : limitBytes ≤ length start
+  pub tag : b .tag < 16
+  pub all : All (FitsCommand (byte0By b)) cs
+  pub words : b .words ≡ length (openWords (byte0By b) cs)
+  pub answer : b .answer ≡ replies (byte0By b) cs
+  pub most : b .words ≤ limit
+  pub few : b .answer ≤ limit
+  pub opens : b .closed ≡ false
+  pub is : out ≡ putWords start 0 (openWords (byte0By b) cs)
 
 stands-first : (start : List ℕ) (kind tag : ℕ) (wide discovery : Bool) → begun (length start) kind tag wide discovery .refusal ≡ refusal 0
     → Stands start [] (begun (length start) kind tag wide discovery .building) start
@@ -124,6 +125,7 @@ stands-first start kind tag wide discovery e = go (longOk (length start) && star
           answer = sym (replies-none (byte0By b));
           most = omega arith;
           few = omega arith;
+          opens = refl;
           is = rw (open-none (byte0By b)) (sym (words-none start 0));
         }
     go false z e = absurd (omega (arith, unrefused e))
@@ -218,6 +220,7 @@ module _ {start : List ℕ} {cs : List Command} {b : Building} {out : List ℕ} 
         answer = more-answer;
         most = a .fits .short;
         few = a .fits .few;
+        opens = refl;
         is = more-run false ∙ ap (putWords start 0) (sym (open-more byte0 cs c));
       })
 
@@ -263,7 +266,7 @@ module _ {start : List ℕ} {cs : List Command} {b : Building} {out : List ℕ} 
         kept = rw (w, o) (words-behind start (requestWords byte0 cs'));
       })
 
-stands : {start : List ℕ} {cs : List Command} {b : Building} {out : List ℕ} → Adding start cs b out → Stands start cs b out
+pub stands : {start : List ℕ} {cs : List Command} {b : Building} {out : List ℕ} → Adding start cs b out → Stands start cs b out
 stands {start} (begins kind tag wide discovery e) = stands-first start kind tag wide discovery e
 stands (adds s asked payload l e) = stands-more (stands s) asked payload l e
 

@@ -3,7 +3,7 @@ use mathlib.Core.Path.{_≡_, sym}
 use borrow.Author.Tests.{le-ltb, lt-ltb}
 use Rattle.header.specs.Limits.{limit}
 use Rattle.channel_run.specs.Bytes.{composed}
-use Rattle.channel_run.proofs.Inner.{closedIn, composed-is}
+use Rattle.channel_run.proofs.Inner.Compose.{closedIn, composed-is}
 use borrow.Author.Needs.{needs}
 use Rattle.channel_run.proofs.compose.Statement.{statement}
 use Rattle.channel_run.proofs.compose.Tie as tie

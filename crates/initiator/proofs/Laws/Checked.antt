@@ -64,6 +64,11 @@ module _ (s : Sender) (m : List ℕ) where
   unfolding sendOf
   sends-none e = ap (λ (p : Reading Request). handsBack p m) (is-refused e)
 
+  -- 37
+  pub take-stopped : (a : List ℕ) → senderOk s ≡ false → takeOf s m a ≡ refusedTake s (refusal 37)
+  unfolding takeOf sending
+  take-stopped a e = rw e
+
   pub take-idle : (a : List ℕ) → eqb (sendFault s m .number) 0 ≡ false → takeOf s m a ≡ refusedTake s (sendFault s m)
   unfolding takeOf
   take-idle a e = ap (λ (p : Reading Request). takenBy s (placeIn s (tagOf (getD m 0 0))) (judgedIn p a)) (is-refused e)

@@ -47,7 +47,7 @@ behind-at m at last (w ∷ v ∷ ws) (suc j) l h =
     ∙ rw (getD-set-other m at (suc at + j) (merged (getD m at 0) w 15) 0 (λ q. omega arith)))
 
 -- the same of a whole write
-stores-other : (m : List ℕ) (at first last : ℕ) (ws : List ℕ) (i : ℕ) → ((j : ℕ) → j < length ws → i ≡ at + j → ⊥)
+pub stores-other : (m : List ℕ) (at first last : ℕ) (ws : List ℕ) (i : ℕ) → ((j : ℕ) → j < length ws → i ≡ at + j → ⊥)
     → getD (afterMoves m (stores at first last ws)) i 0 ≡ getD m i 0
 unfolding afterMoves stores
 stores-other m at first last [] i h = refl

@@ -7,7 +7,7 @@ use mathlib.Core.List.{List, [], _∷_, _++_}
 use native.Mathlib.Omega.{arith}
 use native.Mathlib.Nat.{add-zero, add-sub-cancel-left}
 use native.Mathlib.Numerals.{add-one}
-use borrow.Author.Tests.{ltb-false}
+use borrow.Author.Tests.{ltb-false, le-ltb, eq-eqb}
 use lib.Dec.{ltb, eqb}
 use lib.ListN.{length, getD, set, take, drop, length-set, length-drop}
 use lib.Seq.{drop-cons, take-suc, getD-drop, length-take-le}
@@ -52,6 +52,11 @@ within size address count e = go (eqb (address % 4) 0) e
     go : (b : Bool) → cond b (ltb size (address / 4 + count)) true ≡ false → address / 4 + count ≤ size
     go true e = ltb-false size (address / 4 + count) e
     go false e = absurd (false≢true (sym e))
+
+-- and one that lies inside, from a multiple of 4 on, does not fail
+pub inside-fits : (size address count : ℕ) → address % 4 ≡ 0 → address / 4 + count ≤ size → outside size address count ≡ false
+unfolding outside
+inside-fits size address count z h = rw (eq-eqb (address % 4) 0 z, le-ltb size (address / 4 + count) h)
 
 -- a read changes nothing, nor does any command but a write
 fetches-quiet : (m : List ℕ) (at n : ℕ) → afterMoves m (fetches at n) ≡ m
