@@ -2,6 +2,8 @@
 //
 // The contracts cite specs/, where document 01's sentences have their definitions. The crate's root goes by
 // specs/Answer.antt.
+#![tactic(auto)]
+
 ghost use Rattle.std.specs.Prelude.{◌≡◌, ◌<◌, ◌≤◌, ltb, eqb};
 ghost use Rattle.std.specs.Bool.{beq};
 ghost use Rattle.word.specs.Words.{words_of};

@@ -4,6 +4,8 @@
 // between. The fifth is offered again when two have ended, and the last answer ends three. Five rounds, 25 messages:
 // tags go past 15, once with four in flight. Prints what each call gave, the outcomes in order of tag, and the memory
 // at the end.
+#![tactic(auto)]
+
 use channel_run::controller::Controller;
 use channel_run::{Bytes, controller, loader};
 use initiator::sender::Sender;

@@ -1,5 +1,7 @@
 // Runs every line of the bench sheet on the real call, marked or not, and names what each gave: the refusal or the
 // words sent, the whole memory, and the record.
+#![tactic(auto)]
+
 use completer::serving;
 use completer::serving::Served;
 use header::limits;

@@ -1,5 +1,7 @@
 // Builds a message of each kind and runs into every refusal 21 to 26, on the real functions, and prints what each call
 // gave: its refusal, 0 for none, then the record, and the words of what was closed.
+#![tactic(auto)]
+
 use building::asked::Asked;
 use building::build;
 use building::build::Built;

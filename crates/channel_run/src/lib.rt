@@ -3,6 +3,8 @@
 //
 // No contract can say what is written. What only prints is safe, ends, and reads what it is lent; what a call gives,
 // its contract says.
+#![tactic(auto)]
+
 ghost use Rattle.std.specs.Prelude.{◌≡◌};
 ghost use Rattle.channel_run.specs.Bytes.{no_bytes, place_of, placed, composed};
 

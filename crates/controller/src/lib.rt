@@ -1,6 +1,8 @@
 // The controller's call in place, for its main loop: the tag record is lent by reference.
 //
 // The one function is what the firmware's static library exports; it holds the whole call, with no wrapper around it.
+#![tactic(auto)]
+
 ghost use Rattle.std.specs.Prelude.{◌≡◌};
 ghost use Rattle.completer.specs.Controller.{lent, left};
 ghost use Rattle.completer.specs.Serving.{after};

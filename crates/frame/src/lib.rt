@@ -2,6 +2,8 @@
 //
 // Of messages this crate knows the size of a command by its header, and no more. Its two calls are what both static
 // libraries export beside their own. The contracts cite specs/Framing.antt and specs/Unframing.antt.
+#![tactic(auto)]
+
 ghost use Rattle.std.specs.Prelude.{◌≡◌, ◌&&◌, true, ◌≤◌, ◌++◌, eqb, length, replicate};
 ghost use Rattle.word.specs.Words.{words_of, put};
 ghost use Rattle.header.specs.Limits.{length_ok};

@@ -2,6 +2,8 @@
 // every message and every answer keeps, and what a refusal is.
 //
 // The contracts cite specs/, where document 01's sentences have their definitions, in the file named after the module.
+#![tactic(auto)]
+
 ghost use Rattle.std.specs.Prelude.{◌≡◌, ◌<◌, ◌≤◌};
 ghost use Rattle.header.specs.Limits.{tag_count};
 ghost use Rattle.header.specs.Header.{tag_of, number_of, kind_no, kind_of, wide_of, discovery_of, byte0_of, byte1_of};

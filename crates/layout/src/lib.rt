@@ -3,6 +3,8 @@
 // 24 rows of 8 words, the first of which is the row's number, then the complete word, which is called the mark. The
 // other seven words of each row are the caller's: 168 of them, those of row 1 first. They are lent as an array of that
 // length, and the row numbers are added here: so no caller can lend too few or number a row wrongly.
+#![tactic(auto)]
+
 ghost use Rattle.std.specs.Prelude.{◌≡◌, ◌<◌};
 ghost use Rattle.layout.specs.Layout.{set_up_fault, row_of};
 

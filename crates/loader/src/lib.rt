@@ -3,6 +3,8 @@
 //
 // Each function takes any records, numbers and bytes, and gives what the call that it hands them to gives. Nothing over
 // 16 bytes goes by value, so that a call means the same under every C convention.
+#![tactic(auto)]
+
 pub mod build;
 pub mod outcome;
 pub mod sending;

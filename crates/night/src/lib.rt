@@ -1,5 +1,7 @@
 // The replay of a recorded night. A controller of its own serves the records in turn, and each gives a line of text;
 // whoever reads the records and writes the lines out needs to know no more.
+#![tactic(auto)]
+
 ghost use Rattle.std.specs.Prelude.{◌≤◌, ◌≡◌, length};
 ghost use Rattle.completer.specs.Controller.{lent, left};
 ghost use Rattle.night.specs.Text.{tag_text, Wrote};

@@ -1,5 +1,7 @@
 // Replays a recorded night from standard input: reads a record, has it played, writes its line; then the last line.
 // What a record is and what its line says is the library's.
+#![tactic(auto)]
+
 use libc::STDIN_FILENO;
 use night::{Night, Turn};
 

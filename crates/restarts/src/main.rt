@@ -11,6 +11,8 @@
 // early; in 8, of which none arrives there, two come early, one of them twice, and are refused; in 2, 3, 5, 7 and 10
 // more discoveries come, and in 5, 7 and 10 more answers to them reach the loader. All outputs have one length here,
 // and other words fill the stored answers after the reset.
+#![tactic(auto)]
+
 use channel_run::controller::Controller;
 use channel_run::{Bytes, controller, loader};
 use initiator::sender::Sender;

@@ -1,6 +1,8 @@
 // Runs the sender into every refusal 30 to 38, has four messages wait and takes their answers crossed, starts from
 // discoveries' answers, and reads an outcome with an Error in the middle, on the real functions; prints what each call
 // gave: its refusal, 0 for none, and the sender then.
+#![tactic(auto)]
+
 use header::refusal::Refusal;
 use initiator::outcome::Ending;
 use initiator::sender::{Moved, Sender};

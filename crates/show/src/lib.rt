@@ -2,6 +2,8 @@
 //
 // No contract can say what is written. Each function here is safe, ends, and only reads what it is lent; what a front
 // is, its contract says.
+#![tactic(auto)]
+
 ghost use Rattle.std.specs.Prelude.{◌≡◌, ◌≤◌, length, take};
 
 use bytes::scan;

@@ -7,6 +7,8 @@
 //
 // Word j of row r of life n is n, r and j, two digits each (hexadecimal), behind the row's own number; so a row tells
 // whose it is. Wherever the mark is 18, which is 24, all rows under it are of one life.
+#![tactic(auto)]
+
 use channel_run::controller::Controller;
 use channel_run::{Bytes, controller, loader};
 use header::limits;

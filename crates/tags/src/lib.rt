@@ -2,5 +2,7 @@
 // tag says against it.
 //
 // The contracts cite specs/, where document 01's sentences have their definitions, in the file named after the module.
+#![tactic(auto)]
+
 pub mod record;
 pub mod rule;

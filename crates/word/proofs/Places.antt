@@ -2,11 +2,10 @@
 use Prim.Native.Nat.{ℕ, zero, suc, ◌+◌, ◌*◌, ◌/◌, ◌%◌, ◌<◌}
 use mathlib.Core.Path.{◌≡◌, refl, ap, ◌∙◌}
 use mathlib.Core.Bool.{Bool, true, false, cond}
-use mathlib.Core.List.{List, [], ◌∷◌}
+use mathlib.Core.List.{[], ◌∷◌}
 use native.Mathlib.Omega.{arith}
 use native.Mathlib.Nat.{not-suc-le-zero, le_of_suc-le-suc, div-div-eq-div-mul}
 use lib.Dec.{eqb}
-use lib.ListN.{length, get_or}
 use Rattle.word.specs.Words.{bytes_of}
 use Rattle.word.specs.Enables.{byte_of, bit_of, of_bytes, merged}
 use Rattle.word.specs.Promises.{BytePlace, MergeByte}

@@ -1,6 +1,8 @@
 // Little-endian words in byte slices, runs of words (`run`), and a word merged under byte enables.
 //
 // The contracts cite specs/Words.antt and specs/Enables.antt, and so do those of every crate above.
+#![tactic(auto)]
+
 pub mod run;
 
 ghost use Rattle.std.specs.Prelude.{◌≡◌, ◌+◌, ◌*◌, ◌<◌, ◌≤◌, ◌∷◌, [], length, get_or};
