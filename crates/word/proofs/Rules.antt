@@ -1,18 +1,18 @@
 -- What a branch's test says of a definition's test, for `search`. The proofs of every crate cite these. Assumes nothing.
 use Prim.Native.Nat.{ℕ, ◌≤◌, ◌<◌}
 use mathlib.Core.Path.{◌≡◌, ◌∙◌, sym, subst}
-use mathlib.Core.Bool.{Bool, true, false, not}
+use mathlib.Core.Bool.{Bool, true, false}
 use lib.Dec.{leb, eqb}
-use borrow.Author.Tests.{le-ltb, lt-ltb, le-leb, lt-leb, eq-eqb, ne_eqb, not-true, not-false}
+use borrow.Author.Tests.{le-ltb, lt-ltb, le-leb, lt-leb, eq-eqb, ne_eqb}
 
 pub ruleset tests = (le-ltb, lt-ltb, le-leb, lt-leb, eq-eqb, ne_eqb)
 
--- a call's flag that was tested negated, and what its contract says it is
-pub flag_off : {b r : Bool} → r ≡ b → not r ≡ true → b ≡ false
-flag_off {b} {r} e h = sym e ∙ not-true r h
+-- a call's flag that was tested, and what its contract says it is
+pub flag_off : {b r : Bool} → r ≡ b → r ≡ false → b ≡ false
+flag_off e h = sym e ∙ h
 
-pub flag-on : {b r : Bool} → r ≡ b → not r ≡ false → b ≡ true
-flag-on {b} {r} e h = sym e ∙ not-false r h
+pub flag-on : {b r : Bool} → r ≡ b → r ≡ true → b ≡ true
+flag-on e h = sym e ∙ h
 
 -- a call's number that was tested, and what its contract says it is
 pub leb-on : {x y n : ℕ} → x ≡ y → x ≤ n → leb y n ≡ true

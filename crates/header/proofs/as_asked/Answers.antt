@@ -1,10 +1,9 @@
 -- `header::as_asked` meets its contract: count and LAST stand where they stood. Assumes nothing.
 -- the highest bit of a word is its LAST
-use Prim.Native.Nat.{ℕ, ◌*◌, ◌/◌, ◌<◌}
+use Prim.Native.Nat.{ℕ, ◌/◌, ◌<◌}
 use mathlib.Core.Path.{◌≡◌, refl}
 use mathlib.Core.Bool.{Bool, true, false, not}
 use native.Mathlib.Omega.{arith}
-use borrow.Author.Rules.{rules}
 use borrow.Author.Tests.{eqb-true, eqb-false}
 use lib.Dec.{eqb}
 use Rattle.header.specs.Header.{last_of, bit, header_from}

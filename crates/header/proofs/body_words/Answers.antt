@@ -1,6 +1,5 @@
 -- `header::body_words` meets its contract: address and data words together. Assumes nothing.
 use native.Mathlib.Omega.{arith}
-use borrow.Author.Rules.{rules}
 use Rattle.header.proofs.body_words.Goals as goal
 
 pub returns : goal.returns

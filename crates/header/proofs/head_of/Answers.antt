@@ -1,6 +1,5 @@
 -- `header::head_of` meets its contract: field by field. Assumes nothing.
 use Rattle.header.specs.Header.{head_of}
-use borrow.Author.Rules.{rules}
 use Rattle.header.proofs.head_of.Goals as goal
 
 pub returns : goal.returns

@@ -1,7 +1,6 @@
 -- `header::header_from` meets its contract: the sum of its fields. Assumes nothing.
 use native.Mathlib.Omega.{arith}
 use Rattle.header.specs.Header.{header_from}
-use borrow.Author.Rules.{rules}
 use Rattle.header.proofs.header_from.Goals as goal
 
 pub returns : goal.returns

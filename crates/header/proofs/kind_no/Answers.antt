@@ -1,4 +1,6 @@
 -- `header::kind_no` meets its contract: each arm is a case of `kind_no`. Assumes nothing.
+use native.Mathlib.Omega.{arith}
+use mathlib.Core.Path.{◌≡◌}
 use borrow.Author.Rules.{rules}
 use Rattle.header.specs.Header.{kind_no}
 use Rattle.header.proofs.Laws.Header.{kind-rest}
@@ -17,4 +19,8 @@ unfolding kind_no
 returns-in-2 c = search rules
 
 pub returns-in-3-to-4294967295 : goal.returns-in-3-to-4294967295
-returns-in-3-to-4294967295 c = let r = c.in-0.rest in kind-rest _ r.0.0.1 r.0.1 r.1
+returns-in-3-to-4294967295 c =
+    kind-rest c.args.n
+    (λ (e : c.args.n ≡ 0). omega arith)
+    (λ (e : c.args.n ≡ 1). omega arith)
+    (λ (e : c.args.n ≡ 2). omega arith)

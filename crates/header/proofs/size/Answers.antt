@@ -1,6 +1,5 @@
 -- `header::size` meets its contract: a header and a body. Assumes nothing.
 use Rattle.header.specs.Header.{size_of}
-use borrow.Author.Rules.{rules}
 use Rattle.header.proofs.size.Goals as goal
 
 pub returns : goal.returns

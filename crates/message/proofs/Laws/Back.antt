@@ -9,7 +9,7 @@ use borrow.Author.Tests.{eqb-true, leb-true}
 use lib.Dec.{leb, eqb}
 use lib.ListN.{length, get_or, drop, length-drop, take-append-drop, drop_of_length-le}
 use lib.Seq.{drop-drop, length-take-le}
-use Rattle.word.specs.Words.{words_of, Bytes, Words, Below}
+use Rattle.word.specs.Words.{words_of, Words, Below}
 use Rattle.word.proofs.Runs.{below-take, below-drop, below-nth}
 use Rattle.word.proofs.Crossing.{bytes_back, words-below, length-words_of}
 use Rattle.header.specs.Limits.{limit, length_ok}
@@ -20,7 +20,7 @@ use Rattle.header.proofs.Laws.Limits.{right}
 use Rattle.message.specs.declared.walk.Step.TheVariants.{Read, Refused as RefusedStep}
 use Rattle.message.specs.Faults.{asks}
 use Rattle.message.specs.Walk.{step_on, command_of, turn, commands_from, ended, read, request_of}
-use Rattle.message.specs.Request.{Command, Request, Reading, Refused, Means, before, replies, command_words, none, request_words, written, FitsCommand, All, Fits}
+use Rattle.message.specs.Request.{Command, Request, Reading, Refused, Means, before, replies, command_words, none, request_words, written, FitsCommand, All}
 use Rattle.message.specs.Promises.{WrittenRead}
 use Rattle.message.proofs.Laws.Faults.{SoundBefore, sound, fault_before, no-mean, past, before-is}
 use Rattle.message.proofs.Laws.Addresses.{address_is, address-top}

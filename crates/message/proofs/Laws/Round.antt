@@ -17,7 +17,7 @@ use Rattle.header.proofs.Laws.Limits.{length-fits}
 use Rattle.message.specs.declared.walk.Step.TheVariants.{Read}
 use Rattle.message.specs.Faults.{asks}
 use Rattle.message.specs.Walk.{step_on, command_of, commands_from, ended, read}
-use Rattle.message.specs.Request.{Command, Request, Means, before, command_words, none, request_words, written, FitsCommand, All, FitsAsked, Fits}
+use Rattle.message.specs.Request.{Command, Request, Means, before, command_words, none, request_words, written, FitsCommand, All, FitsAsked}
 use Rattle.message.specs.Address.{address_from, address_in}
 use Rattle.message.specs.Promises.{ReadWritten}
 use Rattle.message.proofs.Laws.Faults.{Sound, faultless, step-read, skipped}

@@ -1,0 +1,32 @@
+-- `message::walk::last_read` meets its contract: each test is a premise of `read-faultless`. Assumes nothing.
+use mathlib.Core.Path.{◌≡◌, sym, ◌∙◌}
+use mathlib.Core.Bool.{false≢true}
+use Rattle.header.specs.Header.{count_of}
+use Rattle.message.proofs.Laws.Faults.{read-faultless}
+use borrow.Author.Tests.{eqb-true}
+use Rattle.message.proofs.walk.last_read.Goals as goal
+
+pub returns-then-not-reads : goal.returns-then-not-reads
+returns-then-not-reads c e = absurd (false≢true e)
+
+pub returns-then-byte0 : goal.returns-then-byte0
+returns-then-byte0 c e = absurd (false≢true e)
+
+pub returns-then-h-ne8 : goal.returns-then-h-ne8
+returns-then-h-ne8 c e = absurd (false≢true e)
+
+pub returns-then-count-eq0 : goal.returns-then-count-eq0
+returns-then-count-eq0 c e = absurd (false≢true e)
+
+pub returns : goal.returns
+returns c e =
+    let s4 = c in
+    let s3 = s4 in
+    let s2 = s3 in
+    let s1 = s2 in
+    let a = s1.args in
+    let kind = s1.reads.ensures s1.if-not-reads.false in
+    let same = sym s2.byte0.ensures.value ∙ s2.if-byte0.false in
+    let some : count_of a.h ≡ 0 → ⊥ = λ z. s4.if-count-eq0.false (s4.count.ensures.value ∙ z) in
+    let ends = eqb-true _ _ e ∙ c.address_words.ensures.value in
+    read-faultless a.byte0 a.h a.left kind same s3.if-h-ne8.false some ends

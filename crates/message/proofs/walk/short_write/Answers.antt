@@ -1,0 +1,43 @@
+-- `message::walk::short_write` meets its contract: each test is a premise of `short-faultless`. Assumes nothing.
+use mathlib.Core.Path.{sym, ◌∙◌}
+use Prim.Native.Nat.{◌+◌}
+use mathlib.Core.Bool.{false≢true}
+use Rattle.word.proofs.Rules.{flag-on}
+use Rattle.header.specs.Header.{kind_of}
+use Rattle.message.proofs.Laws.Faults.{write-is, short-faultless}
+use native.Mathlib.Omega.{arith}
+use borrow.Author.Tests.{eqb-true, leb-true}
+use Rattle.message.proofs.walk.short_write.Goals as goal
+
+pub returns-then-not-writes : goal.returns-then-not-writes
+returns-then-not-writes c e = absurd (false≢true e)
+
+pub returns-then-byte0 : goal.returns-then-byte0
+returns-then-byte0 c e = absurd (false≢true e)
+
+pub returns-then-h-ne16 : goal.returns-then-h-ne16
+returns-then-h-ne16 c e = absurd (false≢true e)
+
+pub returns-then-last : goal.returns-then-last
+returns-then-last c e =
+    let s3 = c in
+    let s2 = s3 in
+    let s1 = s2 in
+    let a = s1.args in
+    let kind = write-is (kind_of a.byte0) (flag-on s1.writes.ensures s1.if-not-writes.false) in
+    let words = c.address_words-body.ensures.value in
+    let last = sym c.last.ensures ∙ c.if-last.true in
+    let none = short-faultless a.byte0 a.h a.left kind (sym s2.byte0.ensures.value ∙ s2.if-byte0.false) s3.if-h-ne16.false (rw (← words) (let same = eqb-true a.left (c.address_words-body.result + 1) e in omega (arith, same))) (rw (last, ← words, e)) in
+    (kind, none.0, none.1)
+
+pub returns : goal.returns
+returns c e =
+    let s3 = c in
+    let s2 = s3 in
+    let s1 = s2 in
+    let a = s1.args in
+    let kind = write-is (kind_of a.byte0) (flag-on s1.writes.ensures s1.if-not-writes.false) in
+    let words = c.address_words-body.ensures.value in
+    let last = sym c.last.ensures ∙ c.if-last.false in
+    let none = short-faultless a.byte0 a.h a.left kind (sym s2.byte0.ensures.value ∙ s2.if-byte0.false) s3.if-h-ne16.false (rw (← words) (leb-true _ _ e)) (rw (last)) in
+    (kind, none.0, none.1)
