@@ -1,5 +1,4 @@
 -- `answer::answer_fault` meets its contract: each check is a line of `answer_fault`, in its order. Assumes nothing.
--- byte 0, once it was found to be the answer's
 use mathlib.Core.Path.{sym, ◌∙◌}
 use Rattle.word.proofs.Rules.{flag-on, flag_off, eqb-on, eqb-off, leb-on, leb-off}
 use Rattle.answer.specs.Answer.{answer_fault}

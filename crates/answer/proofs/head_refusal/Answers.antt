@@ -1,5 +1,4 @@
 -- `answer::head_refusal` meets its contract: 32, 33, or none. Assumes nothing.
--- past the length
 use mathlib.Core.Path.{sym, ◌∙◌}
 use native.Mathlib.Omega.{arith}
 use borrow.Author.Tests.{eq-eqb, ne_eqb}
