@@ -16,7 +16,7 @@ use header::refusal::Refusal;
 use header::{Kind, limits};
 
 // How a command ended.
-#[derive(Drop)]
+#[derive(Clone, Copy)]
 pub enum Status {
     Ok,
     Timeout,
@@ -24,7 +24,7 @@ pub enum Status {
 }
 
 // An answer's header as it was read.
-#[derive(Drop)]
+#[derive(Clone, Copy)]
 pub struct Seen {
     pub status: Status,
     pub count: usize,

@@ -11,7 +11,7 @@ use message::faults;
 
 // A command to add: its address, the enables of a write's first and last word, the count of a read. Enables are numbers
 // that can be wrong; what a kind has no use for is not looked at.
-#[derive(Drop)]
+#[derive(Clone, Copy)]
 pub struct Asked {
     pub address: u64,
     pub first: u32,

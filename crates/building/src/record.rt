@@ -9,7 +9,7 @@ use header::{Kind, limits};
 // A message that is being built: begin's four, the words so far, the place of the last header (0 if none), the words of
 // the all-OK answer so far, and whether it is closed. Kind and tag are numbers that can be wrong.
 #[repr(C)]
-#[derive(Drop)]
+#[derive(Clone, Copy)]
 pub struct Building {
     pub kind: u32,
     pub tag: u32,

@@ -16,7 +16,7 @@ use message::address;
 
 // What is the same for every command of a message: its byte 0, the kind it names, the answer's byte 0, word 1 of the
 // advertisement, and whether the message is kept, its answer then being stored.
-#[derive(Drop)]
+#[derive(Clone, Copy)]
 pub struct Task {
     pub byte0: u32,
     pub kind: Kind,
@@ -27,7 +27,7 @@ pub struct Task {
 
 // What one command came to: whether the message ends there, the words of the answer so far, and where the next header
 // stands.
-#[derive(Drop)]
+#[derive(Clone, Copy)]
 pub struct Place {
     pub stop: bool,
     pub words: usize,

@@ -15,7 +15,7 @@ pub mod limits;
 pub mod refusal;
 
 // The kind of a command, or an answer's.
-#[derive(Drop)]
+#[derive(Clone, Copy)]
 pub enum Kind {
     Nop,
     Write,

@@ -4,7 +4,6 @@ use Rattle.word.specs.Words.{bytes_of}
 use Rattle.header.specs.declared.Kind.{Kind}
 use Rattle.header.specs.declared.Kind.TheVariants.{Nop, Write, Read, Response}
 use Rattle.header.specs.Header.{kind_of}
-use Rattle.header.specs.Refusal.{refusal}
 use Rattle.message.specs.Request.{Request, Reading, Refused, Means, refusal_in}
 use Rattle.message.specs.Walk.{read}
 use Rattle.answer.specs.declared.Status.{Status}

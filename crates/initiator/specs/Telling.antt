@@ -4,7 +4,6 @@ use Rattle.word.specs.Words.{Bytes}
 use Rattle.header.specs.declared.Kind.{Kind}
 use Rattle.header.specs.declared.refusal.Refusal.{Refusal}
 use Rattle.header.specs.Header.{count_of, last_of}
-use Rattle.header.specs.Refusal.{refusal}
 use Rattle.message.specs.Request.{Request, Reading, Refused, Means}
 use Rattle.message.specs.Walk.{read}
 use Rattle.answer.specs.declared.Status.{Status}

@@ -17,7 +17,7 @@ use header::Kind;
 use header::refusal::Refusal;
 
 // How a command ended: it was not answered, or with a status.
-#[derive(Drop)]
+#[derive(Clone, Copy)]
 pub enum Ending {
     Absent,
     Ended(Status),
@@ -48,7 +48,7 @@ fn refused(refusal: Refusal) -> Outcome
 }
 
 // A part of an answer's bytes.
-#[derive(Drop)]
+#[derive(Clone, Copy)]
 pub struct Span {
     pub start: usize,
     pub end: usize,

@@ -19,7 +19,7 @@ use header::{Kind, limits};
 // The next tag, that of the oldest message which waits, or where none waits the one to offer; how many wait; and which
 // of the three behind the oldest are answered. What is said of a message that does not wait is not looked at.
 #[repr(C)]
-#[derive(Drop)]
+#[derive(Clone, Copy)]
 pub struct Sender {
     pub next: u8,
     pub waiting: u8,

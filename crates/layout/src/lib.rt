@@ -13,7 +13,7 @@ use header::refusal::Refusal;
 pub mod writing;
 
 // Which message is to be sent.
-#[derive(Drop)]
+#[derive(Clone, Copy)]
 pub enum Stage {
     // 0 to the mark
     Clear,

@@ -1,7 +1,7 @@
 -- Ranges, and memory after writes, in figures. `proofs/Laws/Benched.antt` computes them. Assumes nothing.
 use Rattle.std.specs.Prelude.{ℕ, ◌≡◌, Bool, true, false, List, [], ◌∷◌}
 use Rattle.std.specs.Bool.{beq}
-use Rattle.message.specs.Request.{Command, Request}
+use Rattle.message.specs.Request.{Command}
 use Rattle.message.specs.Examples.{every}
 use Rattle.memory.specs.Moves.{outside, memory_after}
 

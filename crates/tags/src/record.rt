@@ -10,7 +10,7 @@ use header::limits;
 // the newest, and at each place the words of the stored answer and those of the kept request. A place that is not held
 // is never looked at.
 #[repr(C)]
-#[derive(Drop)]
+#[derive(Clone, Copy)]
 pub struct TagRecord {
     pub held: u32,
     pub tag: u32,

@@ -21,7 +21,7 @@ use Rattle.message.specs.Request.{Command, Request, Refused, Means, before, repl
 use Rattle.message.proofs.Laws.Faults.{no-mean, past, before-is}
 use Rattle.message.proofs.Laws.Round.{length-right, ends_at}
 use Rattle.answer.specs.declared.Look.TheVariants.{Item, Refused as RefusedLook}
-use Rattle.answer.specs.Answer.{Answered, code_of, status_no, answer_byte, stops, answer_fault, seen_of, look_on, look_turn, answers_from, judge, answered_words, answer_words, encode_answer, FitsAnswered, FitsAnswers, FitsAnswer}
+use Rattle.answer.specs.Answer.{Answered, code_of, status_no, answer_byte, stops, answer_fault, seen_of, look_on, look_turn, answers_from, judge, answered_words, answer_words, encode_answer, FitsAnswered, FitsAnswers}
 use Rattle.answer.specs.Promises.{JudgeEncoded, EncodeJudged}
 use Rattle.answer.specs.Exactly.{AcceptsExactly}
 use Rattle.answer.proofs.Laws.Heads.{status-code, code-status, code_lt, answer_lt, wanted-le, wanted-reply, Fair, fair, fair-fault}

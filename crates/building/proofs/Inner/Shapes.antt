@@ -68,6 +68,7 @@ on_some Read false zero l n count o d p q = omega (arith, o)
 on_some Read true zero l n count o d p q = omega (arith, o)
 on_some Read false (suc w) l n count o d p q = omega (arith, o)
 on_some Read true (suc w) l n count o d p q = omega (arith, o)
+on_some Response wide w l n count o d p q = elim d [ ]
 
 step : (k : Kind) (wide : Bool) (w l n count w' l' n' : ℕ) → Steps k wide w l n → Allowed k count
     → (w' ≡ w + size k wide count) × (l' ≡ w) × (n' ≡ n + reply k count) × (w' ≤ limit) × (n' ≤ limit) → Steps k wide w' l' n'

@@ -14,7 +14,7 @@ use Rattle.word.proofs.Places.{merge-byte}
 use Rattle.header.specs.declared.Kind.{Kind}
 use Rattle.header.specs.declared.Kind.TheVariants.{Write}
 use Rattle.header.specs.Header.{kind_of, first_field, last_field, data_words}
-use Rattle.message.specs.Request.{Command, Request, FitsCommand, All, Fits}
+use Rattle.message.specs.Request.{Command, FitsCommand, All}
 use Rattle.message.proofs.Laws.Pieces.{all_first, all_rest}
 use Rattle.memory.specs.Moves.{fails, Store, stores_behind, stores, moves_of, moves, after_move, after_moves, memory_after}
 use Rattle.memory.specs.Promises.{carried, enables_at, enables, any_enables, byte_at, LastWrite}

@@ -1,18 +1,17 @@
 -- The record after a new message: its own lengths stand at its place, and the other held tags keep theirs. Assumes nothing.
-use Prim.Native.Nat.{ℕ, zero, suc, ◌+◌, ◌-◌, ◌*◌, ◌%◌, ◌≤◌, ◌<◌}
-use mathlib.Core.Path.{◌≡◌, refl, sym, ap, ◌∙◌}
+use Prim.Native.Nat.{ℕ, ◌+◌, ◌-◌, ◌%◌, ◌≤◌, ◌<◌}
+use mathlib.Core.Path.{◌≡◌, refl, sym, ◌∙◌}
 use mathlib.Core.Bool.{Bool, true, false, cond, false≢true}
 use mathlib.Core.List.{List}
 use native.Mathlib.Omega.{arith}
-use borrow.Author.Tests.{ltb-true, ltb-false, eqb-true, eqb-false, le-ltb, lt-ltb, eq-eqb, ne_eqb}
+use borrow.Author.Tests.{ltb-true, ltb-false, eqb-true, eqb-false, le-ltb, lt-ltb, ne_eqb}
 use lib.Dec.{ltb, eqb}
 use lib.ListN.{get_or}
-use Rattle.header.specs.Limits.{limit}
 use Rattle.header.specs.Header.{tag_of, next_tag}
 use Rattle.tags.specs.declared.record.TagRecord.{TagRecord}
 use Rattle.tags.specs.Rule.{expected}
 use Rattle.tags.specs.Record.{places, place_of, is_fresh, back, holds, words_at, request_at, record_ok, written, one_more, record_by}
-use Rattle.tags.proofs.Laws.Record.{Lengths, one-of-four, Held, held-room, held_fits, held_back, back-held, expected-fresh, expected-by}
+use Rattle.tags.proofs.Laws.Record.{Lengths, one-of-four, held-room, held_fits, held_back, back-held, expected-fresh, expected-by}
 
 -- four lengths with one of them written
 pub written-own : (lengths : List ℕ) (p n : ℕ) → p < places → get_or (written lengths p n) p 0 ≡ n

@@ -1,16 +1,15 @@
 -- The promises of the record, by its held tags. Assumes nothing.
 use Prim.Native.Nat.{ℕ, ◌+◌, ◌-◌, ◌%◌, ◌≤◌, ◌<◌}
-use mathlib.Core.Path.{◌≡◌, refl, sym, ap, ◌∙◌}
+use mathlib.Core.Path.{◌≡◌, refl}
 use mathlib.Core.Bool.{Bool, true, false}
 use mathlib.Core.Logic.{◌⊎◌, inl, inr}
 use native.Mathlib.Omega.{arith}
 use borrow.Author.Tests.{eqb-true, eq-eqb}
-use lib.ListN.{get_or}
 use Rattle.header.specs.Limits.{tag_count}
 use Rattle.tags.specs.declared.record.TagRecord.{TagRecord}
-use Rattle.tags.specs.Record.{places, place_of, is_fresh, back, holds, words_at, request_at, record_ok}
-use Rattle.tags.specs.Promises.{RightLengths, HoldsRight, AllowedExactly, HeldExactly, PlacesApart}
-use Rattle.tags.proofs.Laws.Record.{Lengths, Held, held-room, held_fits, fresh-fits, held_back, back-held, held-lengths}
+use Rattle.tags.specs.Record.{places, place_of, is_fresh, back, words_at, request_at, record_ok}
+use Rattle.tags.specs.Promises.{HoldsRight, AllowedExactly, HeldExactly, PlacesApart}
+use Rattle.tags.proofs.Laws.Record.{Held, held-room, held_fits, fresh-fits, held_back, back-held, held-lengths}
 
 -- a held place is that of a held tag
 place-tag : (newest p : ℕ) → newest < 16 → p < places → (place_of ((newest + 16 - (newest + (places - p)) % places) % 16) ≡ p) × (back newest ((newest + 16 - (newest + (places - p)) % places) % 16) ≡ (newest + (places - p)) % places)

@@ -2,20 +2,19 @@
 use Prim.Native.Nat.{ℕ, zero, suc, ◌+◌, ◌-◌, ◌*◌, ◌%◌, ◌≤◌, ◌<◌}
 use mathlib.Core.Path.{◌≡◌, refl, sym, ap, ◌∙◌}
 use mathlib.Core.Bool.{Bool, true, false, cond, ◌&&◌, ◌||◌, false≢true}
-use mathlib.Core.List.{List}
 use native.Mathlib.Omega.{arith}
-use borrow.Author.Tests.{ltb-true, ltb-false, leb-true, leb-false, eqb-true, eqb-false, le-ltb, lt-ltb, le-leb, lt-leb, eq-eqb, ne_eqb}
+use borrow.Author.Tests.{ltb-true, ltb-false, leb-true, leb-false, eqb-true, le-ltb, lt-ltb, le-leb, lt-leb}
 use lib.Dec.{ltb, leb, eqb}
 use lib.ListN.{get_or}
 use Rattle.header.specs.declared.refusal.Refusal.{Refusal}
-use Rattle.header.specs.Limits.{limit, limit_bytes, tag_count}
+use Rattle.header.specs.Limits.{limit, limit_bytes}
 use Rattle.header.specs.Header.{tag_of, discovery_of, next_tag}
 use Rattle.header.specs.Refusal.{refusal}
 use Rattle.tags.specs.declared.record.TagRecord.{TagRecord}
 use Rattle.tags.specs.declared.rule.Verdict.{Verdict}
 use Rattle.tags.specs.declared.rule.Verdict.TheVariants.{Refused, New, Repeat, Discovery}
 use Rattle.tags.specs.Rule.{expected, rule_of}
-use Rattle.tags.specs.Record.{places, place_of, is_fresh, mark_of, back, holds, words_at, request_at, words_ok, place_ok, lengths_ok, places_ok, held_ok, record_ok, kept_ok, written, one_more, record_by}
+use Rattle.tags.specs.Record.{places, place_of, is_fresh, mark_of, back, holds, words_at, request_at, words_ok, place_ok, lengths_ok, places_ok, held_ok, record_ok, kept_ok}
 
 -- a length that is let by
 pub words-room : (words : ℕ) → words_ok words ≡ true → (1 ≤ words) × (words ≤ limit)

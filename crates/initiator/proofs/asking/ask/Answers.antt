@@ -1,0 +1,16 @@
+-- `initiator::asking::ask` meets its contract: the walk's refusal, or the discovery bit. Assumes nothing.
+use mathlib.Core.Path.{sym, ◌∙◌}
+use Rattle.message.proofs.Laws.Going.{walk-means, walk-wrong}
+use Rattle.initiator.proofs.Laws.Asked.{ask-refused, ask-plain}
+use Rattle.initiator.proofs.asking.ask.Goals as goal
+
+pub returns-in-Refused : goal.returns-in-Refused
+returns-in-Refused c =
+    let w = c.before in
+    ask-refused _ _ (walk-wrong _ _ (sym w.walk-walked.ensures ∙ w.in-Refused.is))
+
+pub returns-in-WellFormed : goal.returns-in-WellFormed
+returns-in-WellFormed c =
+    let w = c.before.before in
+    let m = walk-means _ _ (sym w.walk-walked.ensures ∙ w.in-WellFormed.is) in
+    c.plain.ensures ∙ ask-plain _ _ m.is m.first

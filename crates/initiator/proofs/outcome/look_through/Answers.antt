@@ -1,0 +1,53 @@
+-- `initiator::outcome::look_through` meets its contract. The loop's invariant: what was told and what is still to come make the whole. Assumes nothing.
+use mathlib.Core.Path.{sym, ◌∙◌, ap}
+use native.Mathlib.Omega.{arith}
+use Rattle.word.proofs.Crossing.{length-words_of}
+use Rattle.answer.specs.Answer.{look_refusal}
+use Rattle.initiator.specs.Telling.{refused_with}
+use Rattle.initiator.proofs.Inner.Sides.{next, sides-starts, sides-bad, sides-found, sides-last, sides-next}
+use Rattle.initiator.proofs.outcome.look_through.Goals as goal
+
+pub loop-seen-init : goal.loop-seen-init
+loop-seen-init c = rw (c.refused-told.ensures, c.of.ensures) (sides-starts _ _ _ _ c.requires.ready c.requires.answer_len_bound)
+
+pub look_beside-look-requires : goal.look_beside-look-requires
+look_beside-look-requires c = record { at_in_bounds = (omega (arith, (next c.loop-seen.invariant).here, length-words_of c.args.request.now)); back_le_limit = let g = c.loop-seen.invariant in omega (arith, g.within, g.most) }
+
+pub returns-in_default : goal.returns-in_default
+returns-in_default c =
+    let t = c.in_default.is in
+    c.refused.ensures ∙ ap refused_with (c.refusal_of.ensures ∙ ap look_refusal t) ∙ sides-bad c.loop-seen.invariant _ (sym c.look_beside-look.ensures ∙ t)
+
+pub with_item-told-requires : goal.with_item-told-requires
+with_item-told-requires c =
+    let g = c.loop-seen.invariant in
+    (omega (arith, g.counted, g.within, g.most), omega (arith, g.within, g.most), (sides-found g _ (sym c.look_beside-look.ensures ∙ c.in-Item.is)).small)
+
+pub returns-then-seen : goal.returns-then-seen
+returns-then-seen c =
+    c.with_item-told.ensures ∙ sides-last c.loop-seen.invariant _ (sym c.look_beside-look.ensures ∙ c.in-Item.is) c.if-seen.true
+
+pub overflow_add-at : goal.overflow_add-at
+overflow_add-at c = omega (arith, (next c.loop-seen.invariant).here, length-words_of c.args.request.now)
+
+pub body_at-requires : goal.body_at-requires
+body_at-requires c = (omega (arith, (next c.loop-seen.invariant).here, length-words_of c.args.request.now))
+
+pub overflow_add-at-in-loop-seen : goal.overflow_add-at-in-loop-seen
+overflow_add-at-in-loop-seen c =
+    omega (arith, (next c.loop-seen.invariant).here, length-words_of c.args.request.now, c.body_at.ensures.below)
+
+pub overflow_add-back : goal.overflow_add-back
+overflow_add-back c = let g = c.loop-seen.invariant in omega (arith, g.within, g.most)
+
+pub overflow_add-back-in-loop-seen : goal.overflow_add-back-in-loop-seen
+overflow_add-back-in-loop-seen c =
+    let g = c.loop-seen.invariant in
+    omega (arith, g.within, g.most, (sides-found g _ (sym c.look_beside-look.ensures ∙ c.in-Item.is)).small)
+
+pub loop-seen-smaller : goal.loop-seen-smaller
+loop-seen-smaller c = omega (arith, (next c.loop-seen.invariant).here)
+
+pub loop-seen-preserved : goal.loop-seen-preserved
+loop-seen-preserved c =
+    sides-next c.loop-seen.invariant _ (sym c.look_beside-look.ensures ∙ c.in-Item.is) c.body_at.ensures.value c.with_item-told.ensures c.if-seen.false
