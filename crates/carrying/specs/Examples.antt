@@ -1,6 +1,6 @@
 -- Answers to requests in figures. `proofs/Laws/Benched.antt` computes them. Assumes nothing.
 use Rattle.std.specs.Prelude.{ℕ, ◌≡◌, List, [], ◌∷◌}
-use Rattle.message.specs.Request.{Command, Request}
+use Rattle.message.specs.Request.{Command}
 use Rattle.memory.specs.Examples.{one}
 use Rattle.carrying.specs.Answers.{words_to}
 

@@ -7,7 +7,7 @@ use completer::serving;
 use header::limits;
 use tags::record::TagRecord;
 
-#[derive(Drop)]
+#[derive(Clone, Copy)]
 pub struct Controller {
     pub stored: [u32; TagRecord::STORED],
     pub kept: [u8; TagRecord::KEPT],

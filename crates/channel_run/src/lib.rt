@@ -32,7 +32,7 @@ pub fn numbers(labels: &[u8], numbers: &[u32]) {
 }
 
 // A message or an answer: the first n of some bytes.
-#[derive(Drop)]
+#[derive(Clone, Copy)]
 pub struct Bytes {
     pub bytes: [u8; limits::LIMIT_BYTES],
     pub n: usize,

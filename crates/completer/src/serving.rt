@@ -21,7 +21,7 @@ use word::run;
 // What a call gives: the refusal (number 0: none), the bytes sent, which stand at the front of the output, and the
 // record.
 #[repr(C)]
-#[derive(Drop)]
+#[derive(Clone, Copy)]
 pub struct Served {
     pub refusal: Refusal,
     pub sent: usize,
@@ -31,7 +31,7 @@ pub struct Served {
 // The same before the record follows: whether the message is kept, and then its byte 0, the words of its answer and its
 // own.
 #[repr(C)]
-#[derive(Drop)]
+#[derive(Clone, Copy)]
 pub struct Done {
     pub refusal: Refusal,
     pub sent: usize,

@@ -1,5 +1,5 @@
 -- The theorems of specs/Lives.antt. Assumes nothing.
-use Prim.Native.Nat.{ℕ, zero, suc, ◌+◌, ◌≤◌}
+use Prim.Native.Nat.{ℕ, zero, suc, ◌≤◌}
 use mathlib.Core.Path.{◌≡◌, refl, sym, ◌∙◌, ap, subst}
 use mathlib.Core.Bool.{Bool, true, false, cond}
 use mathlib.Core.Option.{Option, none, some}
@@ -20,6 +20,7 @@ use Rattle.once.specs.Lives.{Moments, MemoryOfLives, LifeBegins, Upon, EachLife,
 use Rattle.once.proofs.Lists.{Onto, onto, onto_same, onto-onto}
 use Rattle.once.proofs.Runs.{run-append, always-append}
 use Rattle.once.proofs.Promise.{safety, safety-taken, whole}
+use Rattle.once.proofs.Quiet.{all_quiet}
 
 -- The first n of a list stand first among the first m of a longer one.
 longer-part : {X : Type 0} (n m : ℕ) (l more : List X) → n ≤ m → Longer (take n l) (take m (l ++ more))
@@ -103,13 +104,8 @@ pub first-quiet : {E : Ends} (T : Terms E) (xs ys : Others E) → AllQuiet T (xs
 first-quiet T [] ys a = (tt, a)
 first-quiet T (x ∷ xs) ys a = let r = first-quiet T xs ys a.1 in ((a.0, r.0), r.1)
 
--- What comes before the answer is taken is quiet, as it is allowed.
 module _ {E : Ends} (T : Terms E) (W : ℕ) (A : Ages) (R : Restarts E) where
-  all_quiet : (w : World E) (xs : Others E) → Always (step E W) (Allowed E T W A) w (others xs) → AllQuiet T xs
-  all_quiet w [] a = tt
-  all_quiet w (x ∷ xs) a = (a.0, all_quiet (step E W w (other x.0 x.1)) xs a.1)
-
-  -- and what is quiet is allowed, before anything that is
+  -- what is quiet is allowed, before anything that is
   quiet-allowed : (w : World E) (xs : Others E) (es : List (Event E)) → AllQuiet T xs
       → ((v : World E) → Always (step E W) (Allowed E T W A) v es)
       → Always (step E W) (Allowed E T W A) w (others xs ++ es)
@@ -133,7 +129,7 @@ module _ {E : Ends} (T : Terms E) (W : ℕ) (A : Ages) (R : Restarts E) where
   heard-quiet c xs b ys s es a =
       let w = start E c s in
       let p = (always-append (step E W) (Allowed E T W A) w (others xs ++ other R.ask b ∷ others ys) es a).0 in
-      all_quiet w (xs ++ (R.ask, b) ∷ ys) (rw (others-more xs ((R.ask, b) ∷ ys)) p)
+      all_quiet T W A w (xs ++ (R.ask, b) ∷ ys) (rw (others-more xs ((R.ask, b) ∷ ys)) p)
 
   pub asked-quiet : (c : E.Controller) (xs : Others E) (b : E.Lent) (ys : Others E) (s : E.Sender)
       (es : List (Event E)) → AllowedRun E T W A c s (happened W R (asking xs b ys s) es)

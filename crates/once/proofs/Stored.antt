@@ -8,6 +8,7 @@ use mathlib.Core.List.{List, [], ◌∷◌, ◌++◌, foldl-append}
 use native.Mathlib.Omega.{arith}
 use lib.ListN.{length, take, get_elem?, length-append}
 use lib.Seq.{take_at, take-append-le}
+use Rattle.once.proofs.Bounds.{most_requests, most_stored}
 use Rattle.once.specs.World.{Ends}
 use Rattle.once.specs.Promise.{Terms, made}
 use Rattle.once.specs.Laws.{Answered, Refused, outcome_at}
@@ -95,7 +96,7 @@ module _ {E : Ends} {T : Terms E} {S : Sight E T} {W : ℕ} (F : Tagged E T S W)
 
   -- a message at most 16 behind the next, and not too far ahead of it, whose tag is stored at place j, is suc j behind
   pub is-behind : {ds : List Message} {c : Controller} → Took ds c → (i j t : ℕ) → t ≡ (S.next s₀ + i) % 16
-      → length ds ≤ i + 16 → i + W < length ds + 16 → get_elem? (tags_in (S.stored c)) j ≡ some t
+      → length ds ≤ i + most_stored → i + W < length ds + 16 → get_elem? (tags_in (S.stored c)) j ≡ some t
       → (suc (i + j) ≡ length ds) × (j < W)
   is-behind {ds} {c} k i j t e old ahead g =
       let q = F.back c k.sound j t g in
@@ -171,7 +172,7 @@ module _ {E : Ends} {T : Terms E} {S : Sight E T} {W : ℕ} (F : Tagged E T S W)
 
   -- one that is neither the next nor one of these is refused
   pub took-late : {ds : List Message} {c : Controller} (i : ℕ) {d : Message} {x : Datagram} {b : Lent} → Took ds c
-      → Numbered S s₀ i d → (i ≡ length ds → ⊥) → (i < length ds → i + W < length ds) → length ds ≤ i + 15
+      → Numbered S s₀ i d → (i ≡ length ds → ⊥) → (i < length ds → i + W < length ds) → length ds ≤ i + most_requests
       → i + W < length ds + 16 → S.Copy d x → T.Lendable b → Refused E (Took ds) (E.serve c b x)
   took-late {ds} {c} i {d} {x} {b} k n unlike older old ahead p l =
       let q = F.late k.sound l n.0 p not-next not-stored in

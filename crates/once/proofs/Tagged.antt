@@ -7,6 +7,7 @@ use mathlib.Core.List.{List, [], ◌∷◌}
 use native.Mathlib.Omega.{arith}
 use lib.ListN.{length, take, get_elem?}
 use lib.Seq.{length-take-le}
+use Rattle.once.proofs.Bounds.{most_requests, most_answers}
 use Rattle.once.specs.World.{Ends, World, Event, finished, sent}
 use Rattle.once.specs.Promise.{Terms, usual, AllowedRun, after, Safety, Progress, Extends}
 use Rattle.once.specs.Laws.{Laws}
@@ -26,10 +27,10 @@ empty (x ∷ l) h = absurd (omega arith)
 module _ {E : Ends} {T : Terms E} {S : Sight E T} {W : ℕ} (F : Tagged E T S W) (pos : 0 < W) (wide : W + W ≤ 16)
     (c : E.Controller) (s : E.Sender) (begun : Start E T S c s) where
   -- the usual ages are as the laws want them
-  requests : usual.request ≤ 15
+  requests : usual.request ≤ most_requests
   requests = omega arith
 
-  answers : usual.answer ≤ 16
+  answers : usual.answer ≤ most_answers
   answers = omega arith
 
   abbrev laws : Laws E T W usual c s

@@ -4,6 +4,7 @@ use Prim.Native.Nat.{ℕ, ◌+◌, ◌≤◌, ◌<◌}
 use mathlib.Core.Path.{sym}
 use mathlib.Core.List.{List}
 use native.Mathlib.Omega.{arith}
+use Rattle.once.proofs.Bounds.{most_requests, most_answers}
 use Rattle.once.specs.World.{Ends}
 use Rattle.once.specs.Promise.{Terms, Ages}
 use Rattle.once.specs.Laws.{Laws}
@@ -16,7 +17,7 @@ use Rattle.once.proofs.Waiting.{has-oldest, has-sends, has-hears}
 use Rattle.once.proofs.Wrapped.{wrapped-laws}
 
 module _ {E : Ends} {T : Terms E} {S : Sight E T} {W : ℕ} {A : Ages} (F : Tagged E T S W) (pos : 0 < W)
-    (wide : W + W ≤ 16) (requests : A.request ≤ 15) (answers : A.answer ≤ 16) (c₀ : E.Controller) (s₀ : E.Sender)
+    (wide : W + W ≤ 16) (requests : A.request ≤ most_requests) (answers : A.answer ≤ most_answers) (c₀ : E.Controller) (s₀ : E.Sender)
     (begun : Start E T S c₀ s₀) where
   open E use {Message, Datagram, Controller, Sender}
 

@@ -7,6 +7,7 @@ use mathlib.Core.List.{List, [], ◌∷◌, ◌++◌, append-nil}
 use native.Mathlib.Omega.{arith}
 use native.Mathlib.Decide.{dec_lt}
 use lib.ListN.{length, take, get_elem?, length-append}
+use Rattle.once.proofs.Bounds.{most_answers}
 use Rattle.once.specs.World.{Ends}
 use Rattle.once.specs.Promise.{Terms, results}
 use Rattle.once.specs.Laws.{outcome_at, Heard}
@@ -137,7 +138,7 @@ module _ {E : Ends} {T : Terms E} {S : Sight E T} {W : ℕ} (F : Tagged E T S W)
 
   -- the answer to one that waits and is not answered is taken, and to any other does nothing
   module _ {ds : List Message} {k f : ℕ} (i : ℕ) {s : Sender} {d : Message} {a : Datagram} (h : Has ds k f s)
-      (l : i < k) (e : get_elem? ds i ≡ some d) (old : f < length ds → length ds ≤ i + 16)
+      (l : i < k) (e : get_elem? ds i ≡ some d) (old : f < length ds → length ds ≤ i + most_answers)
       (y : S.Answer d (outcome_at E T m₀ ds i d) a) where
     abbrev now : List (Slot Message Outcome)
     now = S.waiting s

@@ -2,8 +2,10 @@
 // What a record is and what its line says is the library's.
 #![tactic(auto)]
 
-use libc::STDIN_FILENO;
 use night::{Night, Turn};
+
+// The descriptor of standard input.
+const STDIN: i32 = 0;
 
 // The first n bytes of a line, to standard output.
 fn write(line: [u8; night::LINE], n: usize) {
@@ -14,7 +16,7 @@ fn write(line: [u8; night::LINE], n: usize) {
 fn next(before: Night, k: u64) -> Turn {
     let mut recorded = [0u8; night::RECORD];
     let mut line = [0u8; night::LINE];
-    let n = io::read_full(STDIN_FILENO, &mut recorded);
+    let n = io::read_full(STDIN, &mut recorded);
     let turn = night::play(before, k, show::front(&recorded, n), &mut line);
     write(line, turn.length);
     turn

@@ -22,7 +22,7 @@ use tags::record::TagRecord;
 mod messages;
 mod script;
 
-#[derive(Drop)]
+#[derive(Clone, Copy)]
 struct Night {
     // the number of the life, and how many of its messages are carried out, modulo 256
     life: u32,

@@ -4,26 +4,40 @@
 // is, its contract says.
 #![tactic(auto)]
 
-ghost use Rattle.std.specs.Prelude.{◌≡◌, ◌≤◌, length, take};
+ghost use Rattle.std.specs.Prelude.{◌≡◌, ◌==◌, ◌+◌, ◌≤◌, length, take, drop};
+ghost use Rattle.std.specs.List.{position_or_len};
 
-use bytes::scan;
-use libc::STDOUT_FILENO;
+// The descriptor of standard output.
+const STDOUT: i32 = 1;
 
 // A text.
 pub fn say(text: &[u8]) {
-    io::write_all(STDOUT_FILENO, text);
+    io::write_all(STDOUT, text);
 }
 
 // A text, and a number behind it.
 pub fn number(text: &[u8], n: u64) {
     say(text);
-    io::print_decimal(STDOUT_FILENO, n);
+    io::print_decimal(STDOUT, n);
 }
 
 // A text, and a word in hexadecimal behind it.
 pub fn hex(text: &[u8], w: u32) {
     say(text);
-    io::print_hex(STDOUT_FILENO, w as u64, 8);
+    io::print_hex(STDOUT, w as u64, 8);
+}
+
+// Where the line that holds place `at` of a text ends: the first line end from there on, or the text's end.
+fn end_of(text: &[u8], at: usize) -> usize
+    requires { at ≤ length text.now }
+    ensures first { result ≡ at + position_or_len (λ b. b == 10) (drop at text.now) }
+    ensures from { at ≤ result }
+    ensures within { result ≤ length text.now }
+{
+    match text[at..].iter().position(|b| *b == b'\n') {
+        Some(n) => at + n,
+        None => text.len(),
+    }
 }
 
 // Where line i of a text starts, or the text's end where there are fewer lines.
@@ -33,7 +47,7 @@ fn start_of(text: &[u8], i: usize) -> usize
     let mut at = 0;
     let mut k = 0;
     while k < i {
-        let end = scan::find(text, at, text.len(), b'\n');
+        let end = end_of(text, at);
         if end == text.len() {
             return end;
         }
@@ -46,14 +60,14 @@ fn start_of(text: &[u8], i: usize) -> usize
 // Line i of a text, counted from 0, without its end; nothing where there are fewer lines.
 pub fn line(text: &[u8], i: usize) {
     let start = start_of(text, i);
-    let end = scan::find(text, start, text.len(), b'\n');
+    let end = end_of(text, start);
     say(&text[start..end]);
 }
 
 // A byte in hexadecimal, a space in front.
 fn byte(x: u8) {
     say(b" ");
-    io::print_hex(STDOUT_FILENO, x as u64, 2);
+    io::print_hex(STDOUT, x as u64, 2);
 }
 
 // A word, a space in front.

@@ -26,7 +26,7 @@ const START: u64 = 64;
 
 const ROOM: u64 = 194;
 
-#[derive(Drop)]
+#[derive(Clone, Copy)]
 struct Night {
     life: u32,
     // the loader: its sender, and what its attempt came to

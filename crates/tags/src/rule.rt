@@ -9,7 +9,7 @@ use header::limits;
 use header::refusal::Refusal;
 
 // What is to be done about a datagram. A repeat is one of this tag.
-#[derive(Drop)]
+#[derive(Clone, Copy)]
 pub enum Verdict {
     Refused(Refusal),
     New,

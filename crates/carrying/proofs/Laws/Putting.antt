@@ -2,25 +2,24 @@
 -- cite these. Assumes nothing.
 use Prim.Native.Nat.{ℕ, ◌+◌, ◌*◌, ◌≤◌, ◌<◌}
 use mathlib.Core.Path.{◌≡◌, refl, sym, ◌∙◌}
-use mathlib.Core.Bool.{Bool, true, false, not, cond}
+use mathlib.Core.Bool.{Bool, true, false, cond}
 use mathlib.Core.List.{List, [], ◌∷◌, ◌++◌}
 use native.Mathlib.Omega.{arith}
-use borrow.Author.Tests.{not-true, not-false}
 use lib.ListN.{length, get_or, set}
 use Rattle.word.specs.Words.{put}
 use Rattle.word.proofs.Runs.{put-none, put_one, put-put, words-none, words-words, length-put}
 use Rattle.carrying.specs.Putting.{kept_in, Puts}
 
 module _ (keep : Bool) (s : List ℕ) (n : ℕ) where
-  pub kept_off : (ws : List ℕ) → not keep ≡ true → s ≡ kept_in keep s n ws
+  pub kept_off : (ws : List ℕ) → keep ≡ false → s ≡ kept_in keep s n ws
   unfolding kept_in
-  kept_off ws e = rw (not-true keep e)
+  kept_off ws e = rw e
 
-  pub kept_on : (ws : List ℕ) → not keep ≡ false → put s n ws ≡ kept_in keep s n ws
+  pub kept_on : (ws : List ℕ) → keep ≡ true → put s n ws ≡ kept_in keep s n ws
   unfolding kept_in
-  kept_on ws e = rw (not-false keep e)
+  kept_on ws e = rw e
 
-  pub kept-one : (w : ℕ) → not keep ≡ false → n < length s → set s n w ≡ kept_in keep s n (w ∷ [])
+  pub kept-one : (w : ℕ) → keep ≡ true → n < length s → set s n w ≡ kept_in keep s n (w ∷ [])
   kept-one w e h = put_one s n w h ∙ kept_on (w ∷ []) e
 
   pub length-kept : (ws : List ℕ) → n + length ws ≤ length s → length (kept_in keep s n ws) ≡ length s

@@ -1,0 +1,5 @@
+-- `carrying::putting::head` meets its contract: the header of that status. Assumes nothing.
+use Rattle.carrying.proofs.putting.head.Goals as goal
+
+pub returns : goal.returns
+returns c = rw (← c.code.ensures.value) c.header_from.ensures
