@@ -29,14 +29,14 @@ use Rattle.tags.specs.declared.record.TagRecord.{TagRecord}
 use Rattle.tags.specs.declared.rule.Verdict.{Verdict}
 use Rattle.tags.specs.declared.rule.Verdict.TheVariants.{Refused, New, Repeat, Discovery}
 use Rattle.tags.specs.Rule.{rule_of}
-use Rattle.tags.specs.Record.{places, place_of, holds, mark_of, most_memory, words_at, request_at, record_ok, kept_ok}
-use Rattle.tags.proofs.Laws.Record.{Lengths, held-lengths, mark-small, rule-again, rule-repeats, rule-eleven, rule-new}
-use Rattle.tags.proofs.Laws.Kept.{new-tag, kept-own, kept-older, still-held}
+use Rattle.tags.specs.Record.{places, place_of, mark_of, most_memory, words_at, request_at, record_ok, kept_ok}
+use Rattle.tags.proofs.Laws.Record.{held-lengths, mark-small, rule-again, rule-repeats, rule-eleven, rule-new}
+use Rattle.tags.proofs.Laws.Kept.{kept-own, kept-older, still-held}
 use Rattle.completer.specs.Controller.{Controller, request_in, answer_in, After}
 use Rattle.completer.specs.Verdict.{lent_ok, judged, as_kept, held_to, verdict_by, verdict_of}
 use Rattle.completer.specs.Serving.{answer_by, after_by, after}
 use Rattle.completer.specs.Settling.{refusal_of}
-use Rattle.completer.specs.Called.{Unchanged, RefusalKeeps, allowed, RefusedWhere, OtherBytes, TwelveExactly, tag_in, SameFor, OthersStay, FourHeld, NewStores, RepeatSends, DiscoveryKeeps}
+use Rattle.completer.specs.Called.{Unchanged, RefusalKeeps, allowed, RefusedWhere, OtherBytes, TwelveExactly, tag_in, OthersStay, FourHeld, NewStores, RepeatSends, DiscoveryKeeps}
 use Rattle.completer.proofs.Inner.Verdicts.{one, let_by, held_new, carrying, repeat-is}
 
 -- where something lent is not allowed, whatever the datagram is
