@@ -1,7 +1,7 @@
 -- [13] of an attempt alone, for any accepted outcomes and any calls at all: what leads to each message, to the end and
 -- to each failure, in the documents' words, beside the definitions (Attempt, Calls). proofs/Laws/Promises.antt proves
 -- each statement under its own name. Assumes nothing.
-use Rattle.std.specs.Prelude.{ℕ, ◌+◌, ◌<◌, ◌≡◌, cond, List, [], ◌∷◌, ◌++◌, eqb, length, take, drop}
+use Rattle.std.specs.Prelude.{ℕ, ◌+◌, ◌<◌, ◌≡◌, cond, List, [], ◌∷◌, ◌++◌, eqb, take, drop}
 use Rattle.word.specs.Words.{Words}
 use Rattle.header.specs.Refusal.{refusal}
 use Rattle.message.specs.Request.{Means}

@@ -13,7 +13,7 @@ use initiator::{places, sender};
 use layout::{Stage, writing};
 
 // What an attempt comes to.
-#[derive(Drop)]
+#[derive(Clone, Copy)]
 pub enum Next {
     // the message of this stage is to be sent
     Send(Stage),
@@ -24,7 +24,7 @@ pub enum Next {
 }
 
 // The sender, and what comes next.
-#[derive(Drop)]
+#[derive(Clone, Copy)]
 pub struct Attempt {
     pub sender: Sender,
     pub next: Next,

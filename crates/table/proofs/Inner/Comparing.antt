@@ -2,7 +2,7 @@
 -- these. Assumes nothing.
 use Prim.Native.Nat.{ℕ, ◌+◌, ◌/◌, ◌<◌}
 use mathlib.Core.Path.{◌≡◌, refl, sym, ap, ◌∙◌}
-use mathlib.Core.Bool.{Bool, true, false, not}
+use mathlib.Core.Bool.{Bool, true, false}
 use mathlib.Core.List.{List}
 use native.Mathlib.Omega.{arith}
 use borrow.Author.Tests.{eqb-true, eqb-false}
@@ -56,9 +56,9 @@ one_more {P} j h p k l = go (eqb k j) refl
 
 -- a row that is read: not OK, or compared
 module _ (rows : List ℕ) (told : Told) (i : ℕ) {ok : Bool} (e : ok ≡ is_ok (told.ending i)) where
-  pub row-failed : not ok ≡ true → false ≡ read_row rows told i
+  pub row-failed : ok ≡ false → false ≡ read_row rows told i
   row-failed h = rw (read_is told i rows, flag_off e h)
 
-  pub row-compared : {r : Bool} {part row : List ℕ} → not ok ≡ false → row ≡ row_of rows i → Words (told.words i)
+  pub row-compared : {r : Bool} {part row : List ℕ} → ok ≡ true → row ≡ row_of rows i → Words (told.words i)
       → part ≡ bytes_of (told.words i) → Compares part row r → r ≡ read_row rows told i
   row-compared h z w p c = rw (read_is told i rows, flag-on e h) (c (told.words i) w p ∙ ap (same (told.words i)) z)
