@@ -21,10 +21,9 @@ returns-in-1 c =
 
 pub returns-in_default : goal.returns-in_default
 returns-in_default c =
-    let m = c in
-    let a = m.args in
+    let a = c.args in
     let ws = words_of a.datagram.now in
-    let is = m.address_words-words.ensures.value in
+    let is = c.address_words-words.ensures.value in
     let e : a.at + 2 ≡ a.at + 1 + 1 = omega arith in
     let w : c.word_at-in_default.result ≡ get_or ws (a.at + 1 + 1) 0 = c.word_at-in_default.ensures ∙ ap (λ (n : ℕ). get_or ws n 0) e in
     omega (arith, w, c.word_at-low.ensures, from-two _ ws (a.at + 1) (λ z. let q : c.address_words-words.result ≡ 0 = is ∙ z in omega arith) (λ z. let q : c.address_words-words.result ≡ 1 = is ∙ z in omega arith))

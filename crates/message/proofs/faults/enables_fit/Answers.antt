@@ -10,25 +10,19 @@ use Rattle.message.proofs.faults.enables_fit.Goals as goal
 
 pub word_at-low-requires : goal.word_at-low-requires
 word_at-low-requires c =
-    let t = c in
-    let k = t in
-    let a = k in
-    let kind : kind_of a.args.byte0 ≡ Write = sym k.kind_of-kind.ensures ∙ t.in-Write.is in
-    let some : 1 ≤ address_words a.args.byte0 = rw kind (omega arith) in
-    omega (arith, some, a.requires)
+    let kind : kind_of c.args.byte0 ≡ Write = sym c.kind_of-kind.ensures ∙ c.in-Write.is in
+    let some : 1 ≤ address_words c.args.byte0 = rw kind (omega arith) in
+    omega (arith, some, c.requires)
 
 pub returns-in-Nop : goal.returns-in-Nop
 returns-in-Nop c = simp (sym c.kind_of-kind.ensures ∙ c.in-Nop.is)
 
 pub returns-in-Write : goal.returns-in-Write
 returns-in-Write c =
-    let w = c in
-    let b = w in
-    let k = b in
-    let a = k.args in
+    let a = c.args in
     c.pattern_ok.ensures
-    ∙ rw (c.count.ensures.value, w.word_at-low.ensures, b.byte1-byte1.ensures.value)
-    (enables-low a.byte0 (count_of a.h) (byte1_of a.h) (a.at + 1) (words_of a.datagram.now) (sym k.kind_of-kind.ensures ∙ b.in-Write.is))
+    ∙ rw (c.count.ensures.value, c.word_at-low.ensures, c.byte1-byte1.ensures.value)
+    (enables-low a.byte0 (count_of a.h) (byte1_of a.h) (a.at + 1) (words_of a.datagram.now) (sym c.kind_of-kind.ensures ∙ c.in-Write.is))
 
 pub returns-in-Read : goal.returns-in-Read
 returns-in-Read c = simp (sym c.kind_of-kind.ensures ∙ c.in-Read.is)

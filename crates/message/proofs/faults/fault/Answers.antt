@@ -11,74 +11,39 @@ returns-then-h-byte0 c = rw (ne_eqb _ _ c.if-h-byte0.true)
 pub returns-then-not-asks_by : goal.returns-then-not-asks_by
 unfolding fault_of
 returns-then-not-asks_by c =
-    let s1 = c in
-    rw (eq-eqb _ _ s1.if-h-byte0.false, flag_off c.asks_by.ensures c.if-not-asks_by.true)
+    rw (eq-eqb _ _ c.if-h-byte0.false, flag_off c.asks_by.ensures c.if-not-asks_by.true)
 
 pub returns-then-reserved-ne0 : goal.returns-then-reserved-ne0
 unfolding fault_of
 returns-then-reserved-ne0 c =
-    let s2 = c in
-    let s1 = s2 in
-    rw (eq-eqb _ _ s1.if-h-byte0.false, flag-on s2.asks_by.ensures s2.if-not-asks_by.false, eqb-off c.reserved.ensures c.if-reserved-ne0.true)
+    rw (eq-eqb _ _ c.if-h-byte0.false, flag-on c.asks_by.ensures c.if-not-asks_by.false, eqb-off c.reserved.ensures c.if-reserved-ne0.true)
 
 pub returns-then-not-count_fits : goal.returns-then-not-count_fits
 unfolding fault_of
 returns-then-not-count_fits c =
-    let s3 = c in
-    let s2 = s3 in
-    let s1 = s2 in
-    rw (eq-eqb _ _ s1.if-h-byte0.false, flag-on s2.asks_by.ensures s2.if-not-asks_by.false, eqb-on s3.reserved.ensures s3.if-reserved-ne0.false, flag_off c.count_fits.ensures c.if-not-count_fits.true)
+    rw (eq-eqb _ _ c.if-h-byte0.false, flag-on c.asks_by.ensures c.if-not-asks_by.false, eqb-on c.reserved.ensures c.if-reserved-ne0.false, flag_off c.count_fits.ensures c.if-not-count_fits.true)
 
 pub returns-then-left-address_words : goal.returns-then-left-address_words
 unfolding fault_of
 returns-then-left-address_words c =
-    let s4 = c in
-    let s3 = s4 in
-    let s2 = s3 in
-    let s1 = s2 in
-    rw (eq-eqb _ _ s1.if-h-byte0.false, flag-on s2.asks_by.ensures s2.if-not-asks_by.false, eqb-on s3.reserved.ensures s3.if-reserved-ne0.false, flag-on s4.count_fits.ensures s4.if-not-count_fits.false, leb-off c.address_words.ensures.value c.if-left-address_words.true)
+    rw (eq-eqb _ _ c.if-h-byte0.false, flag-on c.asks_by.ensures c.if-not-asks_by.false, eqb-on c.reserved.ensures c.if-reserved-ne0.false, flag-on c.count_fits.ensures c.if-not-count_fits.false, leb-off c.address_words.ensures.value c.if-left-address_words.true)
 
 pub returns-then-not-enables_fit : goal.returns-then-not-enables_fit
 unfolding fault_of
 returns-then-not-enables_fit c =
-    let s5 = c in
-    let s4 = s5 in
-    let s3 = s4 in
-    let s2 = s3 in
-    let s1 = s2 in
-    rw (eq-eqb _ _ s1.if-h-byte0.false, flag-on s2.asks_by.ensures s2.if-not-asks_by.false, eqb-on s3.reserved.ensures s3.if-reserved-ne0.false, flag-on s4.count_fits.ensures s4.if-not-count_fits.false, leb-on s5.address_words.ensures.value s5.if-left-address_words.false, flag_off c.enables_fit.ensures c.if-not-enables_fit.true)
+    rw (eq-eqb _ _ c.if-h-byte0.false, flag-on c.asks_by.ensures c.if-not-asks_by.false, eqb-on c.reserved.ensures c.if-reserved-ne0.false, flag-on c.count_fits.ensures c.if-not-count_fits.false, leb-on c.address_words.ensures.value c.if-left-address_words.false, flag_off c.enables_fit.ensures c.if-not-enables_fit.true)
 
 pub returns-then-left-body_words : goal.returns-then-left-body_words
 unfolding fault_of
 returns-then-left-body_words c =
-    let s6 = c in
-    let s5 = s6 in
-    let s4 = s5 in
-    let s3 = s4 in
-    let s2 = s3 in
-    let s1 = s2 in
-    rw (eq-eqb _ _ s1.if-h-byte0.false, flag-on s2.asks_by.ensures s2.if-not-asks_by.false, eqb-on s3.reserved.ensures s3.if-reserved-ne0.false, flag-on s4.count_fits.ensures s4.if-not-count_fits.false, leb-on s5.address_words.ensures.value s5.if-left-address_words.false, flag-on s6.enables_fit.ensures s6.if-not-enables_fit.false, leb-off c.body_words.ensures.value c.if-left-body_words.true)
+    rw (eq-eqb _ _ c.if-h-byte0.false, flag-on c.asks_by.ensures c.if-not-asks_by.false, eqb-on c.reserved.ensures c.if-reserved-ne0.false, flag-on c.count_fits.ensures c.if-not-count_fits.false, leb-on c.address_words.ensures.value c.if-left-address_words.false, flag-on c.enables_fit.ensures c.if-not-enables_fit.false, leb-off c.body_words.ensures.value c.if-left-body_words.true)
 
 pub returns-then-not-ends_fit : goal.returns-then-not-ends_fit
 unfolding fault_of
 returns-then-not-ends_fit c =
-    let s7 = c in
-    let s6 = s7 in
-    let s5 = s6 in
-    let s4 = s5 in
-    let s3 = s4 in
-    let s2 = s3 in
-    let s1 = s2 in
-    rw (eq-eqb _ _ s1.if-h-byte0.false, flag-on s2.asks_by.ensures s2.if-not-asks_by.false, eqb-on s3.reserved.ensures s3.if-reserved-ne0.false, flag-on s4.count_fits.ensures s4.if-not-count_fits.false, leb-on s5.address_words.ensures.value s5.if-left-address_words.false, flag-on s6.enables_fit.ensures s6.if-not-enables_fit.false, leb-on s7.body_words.ensures.value s7.if-left-body_words.false, flag_off c.ends_fit.ensures c.if-not-ends_fit.true)
+    rw (eq-eqb _ _ c.if-h-byte0.false, flag-on c.asks_by.ensures c.if-not-asks_by.false, eqb-on c.reserved.ensures c.if-reserved-ne0.false, flag-on c.count_fits.ensures c.if-not-count_fits.false, leb-on c.address_words.ensures.value c.if-left-address_words.false, flag-on c.enables_fit.ensures c.if-not-enables_fit.false, leb-on c.body_words.ensures.value c.if-left-body_words.false, flag_off c.ends_fit.ensures c.if-not-ends_fit.true)
 
 pub returns : goal.returns
 unfolding fault_of
 returns c =
-    let s7 = c in
-    let s6 = s7 in
-    let s5 = s6 in
-    let s4 = s5 in
-    let s3 = s4 in
-    let s2 = s3 in
-    let s1 = s2 in
-    rw (eq-eqb _ _ s1.if-h-byte0.false, flag-on s2.asks_by.ensures s2.if-not-asks_by.false, eqb-on s3.reserved.ensures s3.if-reserved-ne0.false, flag-on s4.count_fits.ensures s4.if-not-count_fits.false, leb-on s5.address_words.ensures.value s5.if-left-address_words.false, flag-on s6.enables_fit.ensures s6.if-not-enables_fit.false, leb-on s7.body_words.ensures.value s7.if-left-body_words.false, flag-on c.ends_fit.ensures c.if-not-ends_fit.false)
+    rw (eq-eqb _ _ c.if-h-byte0.false, flag-on c.asks_by.ensures c.if-not-asks_by.false, eqb-on c.reserved.ensures c.if-reserved-ne0.false, flag-on c.count_fits.ensures c.if-not-count_fits.false, leb-on c.address_words.ensures.value c.if-left-address_words.false, flag-on c.enables_fit.ensures c.if-not-enables_fit.false, leb-on c.body_words.ensures.value c.if-left-body_words.false, flag-on c.ends_fit.ensures c.if-not-ends_fit.false)

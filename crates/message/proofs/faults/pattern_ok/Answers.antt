@@ -18,8 +18,6 @@ returns-then-not-zeros_ok c = rw (flag_off c.zeros_ok.ensures c.if-not-zeros_ok.
 pub returns : goal.returns
 unfolding pattern_ok
 returns c =
-    let s2 = c in
-    let s1 = s2 in
-    let a = s1.args in
-    rw (flag-on s2.zeros_ok.ensures s2.if-not-zeros_ok.false, sym s1.gapless.ensures ∙ s1.if-gapless.false)
+    let a = c.args in
+    rw (flag-on c.zeros_ok.ensures c.if-not-zeros_ok.false, sym c.gapless.ensures ∙ c.if-gapless.false)
     (c.gaps_ok.ensures ∙ sym (or-false (gaps_ok a.count a.address)))

@@ -20,13 +20,9 @@ returns-then-count-eq0 c e = absurd (false≢true e)
 
 pub returns : goal.returns
 returns c e =
-    let s4 = c in
-    let s3 = s4 in
-    let s2 = s3 in
-    let s1 = s2 in
-    let a = s1.args in
-    let kind = s1.reads.ensures s1.if-not-reads.false in
-    let same = sym s2.byte0.ensures.value ∙ s2.if-byte0.false in
-    let some : count_of a.h ≡ 0 → ⊥ = λ z. s4.if-count-eq0.false (s4.count.ensures.value ∙ z) in
+    let a = c.args in
+    let kind = c.reads.ensures c.if-not-reads.false in
+    let same = sym c.byte0.ensures.value ∙ c.if-byte0.false in
+    let some : count_of a.h ≡ 0 → ⊥ = λ z. c.if-count-eq0.false (c.count.ensures.value ∙ z) in
     let ends = eqb-true _ _ e ∙ c.address_words.ensures.value in
-    read-faultless a.byte0 a.h a.left kind same s3.if-h-ne8.false some ends
+    read-faultless a.byte0 a.h a.left kind same c.if-h-ne8.false some ends

@@ -20,24 +20,18 @@ returns-then-h-ne16 c e = absurd (false≢true e)
 
 pub returns-then-last : goal.returns-then-last
 returns-then-last c e =
-    let s3 = c in
-    let s2 = s3 in
-    let s1 = s2 in
-    let a = s1.args in
-    let kind = write-is (kind_of a.byte0) (flag-on s1.writes.ensures s1.if-not-writes.false) in
+    let a = c.args in
+    let kind = write-is (kind_of a.byte0) (flag-on c.writes.ensures c.if-not-writes.false) in
     let words = c.address_words-body.ensures.value in
     let last = sym c.last.ensures ∙ c.if-last.true in
-    let none = short-faultless a.byte0 a.h a.left kind (sym s2.byte0.ensures.value ∙ s2.if-byte0.false) s3.if-h-ne16.false (rw (← words) (let same = eqb-true a.left (c.address_words-body.result + 1) e in omega (arith, same))) (rw (last, ← words, e)) in
+    let none = short-faultless a.byte0 a.h a.left kind (sym c.byte0.ensures.value ∙ c.if-byte0.false) c.if-h-ne16.false (rw (← words) (let same = eqb-true a.left (c.address_words-body.result + 1) e in omega (arith, same))) (rw (last, ← words, e)) in
     (kind, none.0, none.1)
 
 pub returns : goal.returns
 returns c e =
-    let s3 = c in
-    let s2 = s3 in
-    let s1 = s2 in
-    let a = s1.args in
-    let kind = write-is (kind_of a.byte0) (flag-on s1.writes.ensures s1.if-not-writes.false) in
+    let a = c.args in
+    let kind = write-is (kind_of a.byte0) (flag-on c.writes.ensures c.if-not-writes.false) in
     let words = c.address_words-body.ensures.value in
     let last = sym c.last.ensures ∙ c.if-last.false in
-    let none = short-faultless a.byte0 a.h a.left kind (sym s2.byte0.ensures.value ∙ s2.if-byte0.false) s3.if-h-ne16.false (rw (← words) (leb-true _ _ e)) (rw (last)) in
+    let none = short-faultless a.byte0 a.h a.left kind (sym c.byte0.ensures.value ∙ c.if-byte0.false) c.if-h-ne16.false (rw (← words) (leb-true _ _ e)) (rw (last)) in
     (kind, none.0, none.1)

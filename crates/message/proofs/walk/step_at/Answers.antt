@@ -19,35 +19,28 @@ returns-then-n-at c = search (tests, length-words_of)
 pub returns-then-short_write : goal.returns-then-short_write
 unfolding step_at head_of
 returns-then-short_write c =
-    let t = c in
-    let w = t in
-    let a = w.args in
-    let s = t.short_write.ensures t.if-short_write.true in
+    let a = c.args in
+    let s = c.short_write.ensures c.if-short_write.true in
     let address = address_from (address_words a.byte0) (drop (a.at + 1) (words_of a.datagram.now)) in
-    rw (length-words_of a.datagram.now, ← w.word_at-h.ensures, lt-ltb _ _ w.if-n-at.false, step-read _ _ _ _ _ (s.2 address))
+    rw (length-words_of a.datagram.now, ← c.word_at-h.ensures, lt-ltb _ _ c.if-n-at.false, step-read _ _ _ _ _ (s.2 address))
     (simp (s.0, s.1, c.byte1.ensures.value, c.address_words.ensures.value, c.last.ensures))
 
 pub returns-then-last_read : goal.returns-then-last_read
 unfolding step_at
 returns-then-last_read c =
-    let t = c in
-    let w = t in
-    let a = w.args in
+    let a = c.args in
     let address = address_from (address_words a.byte0) (drop (a.at + 1) (words_of a.datagram.now)) in
-    let none = t.last_read.ensures t.if-last_read.true address in
-    let there = lt-ltb _ _ w.if-n-at.false in
-    rw (length-words_of a.datagram.now, ← w.word_at-h.ensures, there, step-read _ _ _ _ _ none)
+    let none = c.last_read.ensures c.if-last_read.true address in
+    let there = lt-ltb _ _ c.if-n-at.false in
+    rw (length-words_of a.datagram.now, ← c.word_at-h.ensures, there, step-read _ _ _ _ _ none)
     (simp c.head_of.ensures)
 
 pub returns-then-number-ne0 : goal.returns-then-number-ne0
 unfolding step_at step_on
 returns-then-number-ne0 c =
-    let w = c in
-    search (tests, length-words_of, ← w.word_at-h.ensures, ← c.fault-number.ensures)
+    search (tests, length-words_of, ← c.word_at-h.ensures, ← c.fault-number.ensures)
 
 pub returns : goal.returns
 unfolding step_at step_on
 returns c =
-    let f = c in
-    let w = f in
-    search (tests, length-words_of, ← w.word_at-h.ensures, ← f.fault-number.ensures, c.head_of-2.ensures)
+    search (tests, length-words_of, ← c.word_at-h.ensures, ← c.fault-number.ensures, c.head_of-2.ensures)

@@ -10,12 +10,11 @@ pub returns-then-not-length_ok : goal.returns-then-not-length_ok
 returns-then-not-length_ok c = rw c.of.ensures (walk-long _ (flag_off c.length_ok.ensures c.if-not-length_ok.true))
 
 pub bounds-datagram-0 : goal.bounds-datagram-0
-bounds-datagram-0 c = let e = c in omega (arith, (right _ (flag-on e.length_ok.ensures e.if-not-length_ok.false)).some)
+bounds-datagram-0 c = omega (arith, (right _ (flag-on c.length_ok.ensures c.if-not-length_ok.false)).some)
 
 pub walk_on-requires : goal.walk_on-requires
-walk_on-requires c = let e = c in (right _ (flag-on e.length_ok.ensures e.if-not-length_ok.false)).most
+walk_on-requires c = (right _ (flag-on c.length_ok.ensures c.if-not-length_ok.false)).most
 
 pub returns : goal.returns
 returns c =
-    let e = c in
-    c.walk_on.ensures ∙ walk-whole _ _ (flag-on e.length_ok.ensures e.if-not-length_ok.false) c.from_byte.ensures.value
+    c.walk_on.ensures ∙ walk-whole _ _ (flag-on c.length_ok.ensures c.if-not-length_ok.false) c.from_byte.ensures.value

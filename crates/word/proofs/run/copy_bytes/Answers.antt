@@ -9,17 +9,15 @@ use Rattle.word.proofs.Runs.{staged, below_all}
 use Rattle.word.proofs.run.copy_bytes.Goals as goal
 
 pub returns-then-n-eq2 : goal.returns-then-n-eq2
-returns-then-n-eq2 c = let two = c in rw two.if-n-eq2.true two.copy_two.ensures
+returns-then-n-eq2 c = rw c.if-n-eq2.true c.copy_two.ensures
 
 pub returns-then-n-eq3 : goal.returns-then-n-eq3
-returns-then-n-eq3 c = let three = c in rw three.if-n-eq3.true three.copy_three.ensures
+returns-then-n-eq3 c = rw c.if-n-eq3.true c.copy_three.ensures
 
 pub returns : goal.returns
 returns c =
-    let stage = c in
-    let k = stage in
-    let a = k.args in
-    let bytes : Bytes a.b.now = below_all 256 _ (λ i. omega (arith, k.shared_slice_known-1.given i)) in
+    let a = c.args in
+    let bytes : Bytes a.b.now = below_all 256 _ (λ i. omega (arith, c.shared_slice_known-1.given i)) in
     let long : a.n ≤ length (words_of a.b.now) = rw (length-words_of a.b.now) (omega arith) in
-    let words = staged _ (words_of a.b.now) a.n long stage.gather.ensures in
+    let words = staged _ (words_of a.b.now) a.n long c.gather.ensures in
     words-in-front a.out.now a.b.now a.n bytes (omega arith) words c.spread.ensures

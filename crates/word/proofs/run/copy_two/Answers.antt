@@ -9,13 +9,9 @@ use Rattle.word.proofs.run.copy_two.Goals as goal
 
 pub returns : goal.returns
 returns c =
-    let s = c in
-    let w2 = s in
-    let w1 = w2 in
-    let k = w1 in
-    let a = k.args in
-    let bytes : Bytes a.b.now = below_all 256 _ (λ i. omega (arith, k.shared_slice_known-1.given i)) in
+    let a = c.args in
+    let bytes : Bytes a.b.now = below_all 256 _ (λ i. omega (arith, c.shared_slice_known-1.given i)) in
     let long : 2 ≤ length (words_of a.b.now) = rw (length-words_of a.b.now) (omega arith) in
     words-in-front a.out.now a.b.now 2 bytes (omega arith)
-    (rw (w1.word_at.ensures, w2.word_at-2.ensures) (first_two (words_of a.b.now) long))
-    s.spread.ensures
+    (rw (c.word_at.ensures, c.word_at-2.ensures) (first_two (words_of a.b.now) long))
+    c.spread.ensures

@@ -6,6 +6,5 @@ use Rattle.word.proofs.run.copy_words.Goals as goal
 
 pub returns : goal.returns
 returns c =
-    let stage = c in
-    let a = stage.args in
-    c.paste-2.ensures ∙ ap (put a.dst.now a.to) (staged-all _ a.src.now stage.paste.ensures)
+    let a = c.args in
+    c.paste-2.ensures ∙ ap (put a.dst.now a.to) (staged-all _ a.src.now c.paste.ensures)

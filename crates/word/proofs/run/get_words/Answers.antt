@@ -10,8 +10,7 @@ use Rattle.word.proofs.run.get_words.Goals as goal
 
 pub returns : goal.returns
 returns c =
-    let stage = c in
-    let a = stage.args in
+    let a = c.args in
     let s = drop a.from (words_of a.b.now) in
     let long : a.n ≤ length s = rw (length-drop a.from (words_of a.b.now), length-words_of a.b.now) (omega arith) in
-    c.paste.ensures ∙ ap (put a.dst.now a.to) (staged _ s a.n long stage.gather.ensures)
+    c.paste.ensures ∙ ap (put a.dst.now a.to) (staged _ s a.n long c.gather.ensures)

@@ -6,6 +6,5 @@ use Rattle.word.proofs.run.put_words.Goals as goal
 
 pub returns : goal.returns
 returns c =
-    let stage = c in
-    let a = stage.args in
-    c.spread.ensures ∙ ap (put_words a.out.now a.to) (staged-all _ a.src.now stage.paste.ensures)
+    let a = c.args in
+    c.spread.ensures ∙ ap (put_words a.out.now a.to) (staged-all _ a.src.now c.paste.ensures)

@@ -28,9 +28,8 @@ loop-i-preserved c =
 pub returns : goal.returns
 returns c =
     let turn = c.loop-i in
-    let k = c in
-    let a = k.args in
+    let a = c.args in
     let e : turn.i ≡ a.n = omega arith in
-    let p : Bytes a.a.now = below_all 256 _ (λ i. omega (arith, k.shared_slice_known-1.given i)) in
-    let q : Bytes a.b.now = below_all 256 _ (λ i. omega (arith, k.shared_slice_known-2-1.given i)) in
+    let p : Bytes a.a.now = below_all 256 _ (λ i. omega (arith, c.shared_slice_known-1.given i)) in
+    let q : Bytes a.b.now = below_all 256 _ (λ i. omega (arith, c.shared_slice_known-2-1.given i)) in
     turn.invariant.1 ∙ rw e (same_runs a.n a.a.now a.b.now p q (omega arith) (omega arith))
