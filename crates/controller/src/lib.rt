@@ -1,6 +1,6 @@
 // The controller's call in place, for its main loop: the tag record is lent by reference.
 //
-// The one function is what the firmware's static library exports; it holds the whole call, with no wrapper around it.
+// The one function is what the firmware's static library exports, through `controller_c`; it holds the whole call.
 #![tactic(auto)]
 
 ghost use Rattle.std.specs.Prelude.{◌≡◌};
@@ -14,7 +14,7 @@ use tags::record::TagRecord;
 // What a call gives beside the record: the refusal (number 0: none) and the bytes sent, which stand at the front of the
 // output.
 #[repr(C)]
-#[derive(Drop)]
+#[derive(Clone, Copy)]
 pub struct Sent {
     pub refusal: Refusal,
     pub sent: usize,
@@ -23,8 +23,7 @@ pub struct Sent {
 // One datagram served, for any buffers, any record and any bytes; the record then holds what the call by value gives.
 // It is looked at where it lies and follows at the end, so that its ten numbers are not carried through the call. The
 // kept requests stand before the stored answers: the compiler's registers are best in that order.
-#[unsafe(no_mangle)]
-pub extern "C" fn charkhavo_serve(
+pub fn charkhavo_serve(
     memory: &mut [u32],
     kept: &mut [u8],
     stored: &mut [u32],

@@ -1,7 +1,7 @@
 -- Whole calls besides the bench sheet's, from bytes, and what is lent in figures. `proofs/Benched.antt` computes
 -- them. Assumes nothing.
 use Rattle.std.specs.Prelude.{ℕ, ◌+◌, ◌-◌, ◌≡◌, true, List, [], ◌∷◌, ◌++◌, length, replicate}
-use Rattle.word.specs.Words.{bytes_of, same}
+use Rattle.word.specs.Words.{bytes_of}
 use Rattle.header.specs.Refusal.{refusal}
 use Rattle.tags.specs.declared.record.TagRecord.{TagRecord}
 use Rattle.tags.specs.Record.{fresh_record}
