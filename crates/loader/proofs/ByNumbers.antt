@@ -1,6 +1,6 @@
 -- What the proofs of the table's calls by numbers share, over plain values. Assumes nothing.
 use Prim.Native.Nat.{ℕ, ◌≤◌}
-use mathlib.Core.Path.{◌≡◌, sym, ap, subst, ◌∙◌}
+use mathlib.Core.Path.{◌≡◌, sym, ap, ◌∙◌}
 use mathlib.Core.List.{List}
 use borrow.Author.Tests.{eq-eqb, ne_eqb}
 use lib.ListN.{length}
@@ -14,8 +14,6 @@ use Rattle.table.specs.declared.attempt.Taken.{Taken}
 use Rattle.table.specs.Calls.{made_of, made_to, taken_of}
 use Rattle.table.proofs.Laws.Calls.{fine, made-refusal, made-fine}
 use Rattle.loader.specs.declared.training.TableAttempt.{TableAttempt}
-use Rattle.loader.specs.declared.training.TableMade.{TableMade}
-use Rattle.loader.specs.declared.training.TableTaken.{TableTaken}
 use Rattle.loader.specs.Training.{next_from, attempt_of, numbers_of, made_by, table_made_of, taken_by, table_taken_of}
 
 -- every other number

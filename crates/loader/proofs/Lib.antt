@@ -1,4 +1,3 @@
 -- Facts that belong to no one function.
 pub mod Laws
-pub mod InPlace
 pub mod ByNumbers

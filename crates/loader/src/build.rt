@@ -1,7 +1,7 @@
 // The refusal of a request; building one: begin, add, close.
 //
-// The building record is lent and changed in place. Each of the three calls is a thin layer, proved by hand, over a
-// function that has the record by value; a refused call leaves the record and the output as they were.
+// The building record is lent and changed in place. Each of the three calls is a thin layer over a function that has
+// the record by value; a refused call leaves the record and the output as they were.
 ghost use Rattle.std.specs.Prelude.{◌≡◌, length};
 ghost use Rattle.message.specs.Walk.{read};
 ghost use Rattle.message.specs.Request.{refusal_in};
@@ -18,8 +18,7 @@ use message::walk::Walked;
 
 // The refusal, 2 to 10, of a request by any controller, at the header that is refused; number 0 where it is
 // well-formed.
-#[unsafe(no_mangle)]
-pub extern "C" fn charkhavo_refusal(request: &[u8]) -> Refusal
+pub fn charkhavo_refusal(request: &[u8]) -> Refusal
     ensures { result ≡ refusal_in (read request.now) }
 {
     match walk::walk(request) {
@@ -72,8 +71,7 @@ fn add_asked(
 
 // Begins a message in the lent output, of which it changes no byte; 21. The record is then the message's; refused, it
 // is as it was.
-#[unsafe(no_mangle)]
-pub extern "C" fn charkhavo_begin(
+pub fn charkhavo_begin(
     output: &[u8],
     building: &mut Building,
     kind: u32,
@@ -91,8 +89,7 @@ pub extern "C" fn charkhavo_begin(
 
 // Adds a command, with the data of a write or NOP; 21 to 26. Only the command's bytes and the record change; refused,
 // nothing.
-#[unsafe(no_mangle)]
-pub extern "C" fn charkhavo_add(
+pub fn charkhavo_add(
     output: &mut [u8],
     building: &mut Building,
     address: u64,
@@ -113,8 +110,7 @@ pub extern "C" fn charkhavo_add(
 }
 
 // Closes the message; 21, 22. Only the LAST bit of its last header and the record change; refused, nothing.
-#[unsafe(no_mangle)]
-pub extern "C" fn charkhavo_close(output: &mut [u8], building: &mut Building) -> Refusal
+pub fn charkhavo_close(output: &mut [u8], building: &mut Building) -> Refusal
     ensures { (leaves result building.new ≡ closed output.old building.old) ×
         (output.new ≡ closed_to output.old building.old) }
 {

@@ -22,8 +22,7 @@ pub struct Part {
 }
 
 // How many commands were answered; 0 where the answer is refused.
-#[unsafe(no_mangle)]
-pub extern "C" fn charkhavo_count(request: &[u8], answer: &[u8]) -> usize
+pub fn charkhavo_count(request: &[u8], answer: &[u8]) -> usize
     ensures { result ≡ count_in (judged_by (read request.now) answer.now) }
 {
     outcome::answered(request, answer)
@@ -40,16 +39,14 @@ fn ending_no(ending: Ending) -> u32
 }
 
 // How command k ended, counted from 0: 0 OK, 1 Timeout, 2 Error, 3 not answered or the answer refused.
-#[unsafe(no_mangle)]
-pub extern "C" fn charkhavo_status(request: &[u8], answer: &[u8], k: usize) -> u32
+pub fn charkhavo_status(request: &[u8], answer: &[u8], k: usize) -> u32
     ensures { result ≡ status_number request.now answer.now k }
 {
     ending_no(outcome::ended(request, answer, k))
 }
 
 // Where command k's read data stand in the answer; of length 0 at 0 for anything but an answered OK read.
-#[unsafe(no_mangle)]
-pub extern "C" fn charkhavo_read_data(request: &[u8], answer: &[u8], k: usize) -> Part
+pub fn charkhavo_read_data(request: &[u8], answer: &[u8], k: usize) -> Part
     ensures value { result ≡ data_part request.now answer.now k }
     ensures inside { result.start + result.length ≤ length answer.now }
 {

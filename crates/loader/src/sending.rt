@@ -24,8 +24,7 @@ pub struct Discovery {
 }
 
 // The fixed discovery, which asks a controller for its newest tag.
-#[unsafe(no_mangle)]
-pub extern "C" fn charkhavo_discovery() -> Discovery
+pub fn charkhavo_discovery() -> Discovery
     ensures { result ≡ fixed_discovery }
 {
     Discovery {
@@ -34,8 +33,7 @@ pub extern "C" fn charkhavo_discovery() -> Discovery
 }
 
 // The sender of a fresh pair.
-#[unsafe(no_mangle)]
-pub extern "C" fn charkhavo_fresh() -> Sender
+pub fn charkhavo_fresh() -> Sender
     ensures { result ≡ fresh_sender }
 {
     Sender::fresh()
@@ -43,24 +41,21 @@ pub extern "C" fn charkhavo_fresh() -> Sender
 
 // The sender that the answer to the fixed discovery makes; 32 to 35, 38, with a sender that every later call refuses by
 // 37.
-#[unsafe(no_mangle)]
-pub extern "C" fn charkhavo_discovered(answer: &[u8]) -> Moved
+pub fn charkhavo_discovered(answer: &[u8]) -> Moved
     ensures { result ≡ start_of answer.now }
 {
     Sender::discovered(answer)
 }
 
 // Offers a message, which then waits; 37, 36 where four wait, 31. Refused, the sender is unchanged.
-#[unsafe(no_mangle)]
-pub extern "C" fn charkhavo_offer(sender: Sender, message: &[u8]) -> Moved
+pub fn charkhavo_offer(sender: Sender, message: &[u8]) -> Moved
     ensures { result ≡ offer_of sender message.now }
 {
     sender::offer(sender, message)
 }
 
 // Whether a message that waits and is not answered may go out, and how long it is: 37, 30, 31.
-#[unsafe(no_mangle)]
-pub extern "C" fn charkhavo_send(sender: Sender, message: &[u8]) -> Sending
+pub fn charkhavo_send(sender: Sender, message: &[u8]) -> Sending
     ensures { result ≡ sending_of sender message.now }
 {
     let refusal = sender::send_refusal(sender, message);
@@ -75,8 +70,7 @@ pub extern "C" fn charkhavo_send(sender: Sender, message: &[u8]) -> Sending
 
 // Takes an answer to the lent message, which waits and is not answered; 37, 30, 31 to 35. It gives how many messages
 // ended, the oldest ones: none where an older one is still unanswered. Refused, the sender is unchanged.
-#[unsafe(no_mangle)]
-pub extern "C" fn charkhavo_take(sender: Sender, message: &[u8], answer: &[u8]) -> Taken
+pub fn charkhavo_take(sender: Sender, message: &[u8], answer: &[u8]) -> Taken
     ensures { result ≡ take_of sender message.now answer.now }
 {
     sender::take(sender, message, answer)

@@ -16,7 +16,7 @@ use table::attempt::{Attempt, Next};
 // An attempt: its sender; what comes next, 0 to 3 the message to be sent (0 to the mark, the rows, reads of them, 24 to
 // the mark), 4 done, 5 and above ended; and the row that it ended with, 25 for the mark, 0 where it has not ended.
 #[repr(C)]
-#[derive(Drop)]
+#[derive(Clone, Copy)]
 pub struct TableAttempt {
     pub sender: Sender,
     pub stage: u8,
@@ -101,8 +101,7 @@ fn numbers_of(attempt: Attempt) -> TableAttempt
 }
 
 // The refusal of a set-up, a start in bytes and a room in words: 40, or 0 for none.
-#[unsafe(no_mangle)]
-pub extern "C" fn charkhavo_set_up(start: u64, room: u64) -> u32
+pub fn charkhavo_set_up(start: u64, room: u64) -> u32
     ensures { result ≡ set_up_fault start room }
 {
     layout::set_up(start, room)
@@ -110,8 +109,7 @@ pub extern "C" fn charkhavo_set_up(start: u64, room: u64) -> u32
 
 // An attempt begins, with the sender that a life of the loader begins with. Where a message waits there, 37 refuses
 // every message and every answer of it.
-#[unsafe(no_mangle)]
-pub extern "C" fn charkhavo_attempt(sender: Sender) -> TableAttempt
+pub fn charkhavo_attempt(sender: Sender) -> TableAttempt
     ensures { result ≡ numbers_of (beginning sender) }
 {
     numbers_of(Attempt::begin(sender))
@@ -119,8 +117,7 @@ pub extern "C" fn charkhavo_attempt(sender: Sender) -> TableAttempt
 
 // The attempt's next message, in the output, which then waits: 40; 37; 36 where a message waits; 30 where it is done or
 // has ended; 21. Behind the message the output stays; refused, all of it.
-#[unsafe(no_mangle)]
-pub extern "C" fn charkhavo_table_message(
+pub fn charkhavo_table_message(
     output: &mut [u8],
     attempt: TableAttempt,
     start: u64,
@@ -148,8 +145,7 @@ pub extern "C" fn charkhavo_table_message(
 
 // Takes an answer to the lent message: 37, 30, 31, 32 to 35. Accepted, the attempt goes on to its next message, is
 // done, or has ended with the row's number, 25 for the mark.
-#[unsafe(no_mangle)]
-pub extern "C" fn charkhavo_table_take(
+pub fn charkhavo_table_take(
     attempt: TableAttempt,
     message: &[u8],
     answer: &[u8],

@@ -1,22 +1,17 @@
 -- The training table by numbers: `numbers-tell`, `message-as-made`, `answer-as-taken`. Assumes nothing.
-use Prim.Native.Nat.{ℕ}
 use mathlib.Core.Path.{◌≡◌, refl, sym, ap, subst, ◌∙◌}
 use mathlib.Core.Bool.{Bool, true, false}
-use mathlib.Core.List.{List}
 use borrow.Author.Tests.{eqb-true, eqb-false}
 use lib.Dec.{eqb}
 use Rattle.layout.specs.declared.Stage.TheVariants.{Clear, Rows, Back, Mark}
 use Rattle.table.specs.declared.attempt.Next.{Next}
 use Rattle.table.specs.declared.attempt.Next.TheVariants.{Send, Done, Ended}
-use Rattle.table.specs.declared.attempt.Attempt.{Attempt}
 use Rattle.table.specs.declared.attempt.Made.{Made}
 use Rattle.table.specs.declared.attempt.Taken.{Taken}
 use Rattle.table.specs.Calls.{attempt_at, made_of, taken_of}
 use Rattle.table.proofs.Laws.Calls.{made-refusal, made-refused}
 use Rattle.table.proofs.Laws.Promises.{refused-stays}
 use Rattle.loader.specs.declared.training.TableAttempt.{TableAttempt}
-use Rattle.loader.specs.declared.training.TableMade.{TableMade}
-use Rattle.loader.specs.declared.training.TableTaken.{TableTaken}
 use Rattle.loader.specs.Training.{next_from, next_no, row_no, attempt_of, made_by, table_made_of, taken_by, table_taken_of}
 use Rattle.loader.specs.Training.{NumbersTell, AsMade, MessageAsMade, AsTaken, AnswerAsTaken}
 use Rattle.loader.proofs.ByNumbers.{made-not, made_so, taken_not, taken-so}
