@@ -38,7 +38,7 @@ pub struct Moved {
 
 // What taking an answer came to: the same, and how many messages ended.
 #[repr(C)]
-#[derive(Drop)]
+#[derive(Clone, Copy)]
 pub struct Taken {
     pub refusal: Refusal,
     pub sender: Sender,

@@ -1,0 +1,18 @@
+-- `channel_run::controller::Controller::fresh` meets its contract: the record is fresh. Assumes nothing.
+use Rattle.std.proofs.Common.{◌*◌, ap}
+use Rattle.std.proofs.Math.ListN.{replicate}
+use Rattle.header.specs.Limits.{limit, limit_bytes}
+use Rattle.tags.specs.declared.record.TagRecord.{TagRecord}
+use Rattle.tags.specs.Record.{places}
+use Rattle.channel_run.specs.declared.controller.Controller.{Controller}
+use Rattle.channel_run.proofs.controller.Controller.fresh.Goals as goal
+
+pub returns : goal.returns
+returns c =
+    let byte = c.args.byte in
+    let with : TagRecord → Controller = λ t. record {
+      stored = replicate (places * limit) (16843009 * byte);
+      kept = replicate (places * limit_bytes) byte;
+      tags = t;
+    } in
+    ap with c.fresh.ensures
