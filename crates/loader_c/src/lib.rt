@@ -1,4 +1,4 @@
-// The static library libloader.a: every call of `loader`, exported to C under its name.
+// The static library of the loader's end, out/libloader_c.a: every call of `loader`, exported to C under its name.
 //
 // Each function is one of `loader`, with its parameters in their order, its types and its clauses. `include/charkhavo.h`
 // declares what C sees.
