@@ -28,7 +28,7 @@ use Rattle.trained.specs.Promise.{Training}
 use Rattle.trained.proofs.Promise.{at-every-moment}
 use Rattle.eleven.specs.Eleven.{at, Seen}
 use Rattle.eleven.proofs.Checked.{AllLived?, lives?, lives-so}
-use Rattle.cut_short.specs.CutShort.{summer, own, rows, messages, lent_from, lent_rows, AsLaidOut, cut, first}
+use Rattle.cut_short.specs.CutShort.{summer, own, rows, messages, lent_from, lent_rows, AsLaidOut, cut}
 use Rattle.cut_short.specs.CutShort.{all, second, holding, Leaves, CutAlone, CutBehind}
 use Rattle.cut_short.specs.Failed.{wrote, read_back}
 use Rattle.cut_short.proofs.Benched.{laying, attempting, calling}

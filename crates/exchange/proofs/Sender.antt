@@ -19,7 +19,7 @@ use Rattle.initiator.specs.Sender.{send_fault}
 use Rattle.initiator.proofs.Laws.Asked.{asks-wrong, asks-discovery, asks-tag}
 use Rattle.initiator.proofs.Laws.Places.{place_of, tag-of, new-small, new-place, waits-at, one-next}
 use Rattle.initiator.proofs.Laws.Checked.{offer-fine, offer-full, send-fine, sends-all, away-fault, sends_none}
-use Rattle.once.specs.Tags.{Slot, asked, answered, message_in, mark, Waits, Still}
+use Rattle.once.specs.Tags.{Slot, asked, answered, message_in, Waits, Still}
 use Rattle.once.proofs.Lists.{inside}
 use Rattle.exchange.specs.Outcomes.{Outcome, told}
 use Rattle.exchange.specs.Ends.{Waiting, Loader, ends, offered_in, handed, send_at}

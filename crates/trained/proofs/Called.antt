@@ -18,7 +18,6 @@ use Rattle.once.specs.World.{Event, offer, send, arrive, back, other, World, sen
 use Rattle.once.specs.World.{start as begin}
 use Rattle.once.specs.Promise.{Allowed}
 use Rattle.once.specs.Lives.{Others, others, Opening, unasked, asking, Life, unheard, begun, Lives, happened, next}
-use Rattle.once.specs.Tags.{asked}
 use Rattle.once.proofs.Runs.{run-append, always-append}
 use Rattle.once.proofs.Lives.{happened-more, all_sound}
 use Rattle.exchange.specs.Ends.{Loader, ends}
