@@ -1,9 +1,7 @@
 -- From two contracts that hold to what follows of their results. Assumes nothing.
 use mathlib.Core.Path.{◌≡◌, sym, ◌∙◌}
-use mathlib.Core.List.{List}
-use Prim.Native.Nat.{ℕ}
 use seplogic.Ra.Ura.{Ura}
-use base.Logic.{SProp, ent, sep, via, fst∗}
+use base.Logic.{ent, sep, via, fst∗}
 use contract.Monad.{conj, conj_l, conj_r, conj_mono, fact, fact_i, fact_use}
 use Rattle.determined.specs.Public.{beside}
 

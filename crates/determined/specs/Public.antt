@@ -92,19 +92,19 @@ beside r output = (r, output)
 -- `dispatch` gives no record: it is the one that `follow` makes of what it gives and of the record that came in. Where
 -- nothing is kept, `follow` does not look at the three numbers beside it, and they are open.
 pub record Controlling : Type 2 where
-  pub verdict-of : Determined VerdictOf.ended (λ M. VerdictOf.clauses) (λ κs r e. r)
+  pub verdict-of : Determined VerdictOf.ended (λ M 𝓤. VerdictOf.clauses) (λ κs r e. r)
   pub dispatch :
-      DeterminedWith Dispatch.ended (λ M. Dispatch.clauses)
+      DeterminedWith Dispatch.ended (λ M 𝓤. Dispatch.clauses)
       (λ κs a r e. left r.refusal r.sent
       (lent e.0.now e.1.0.now e.1.1.0.now (follows a.1.1.1.1.0 r)) e.1.1.1.0.now)
-  pub follow : Determined Follow.ended (λ M. Follow.clauses) (λ κs r e. r)
+  pub follow : Determined Follow.ended (λ M 𝓤. Follow.clauses) (λ κs r e. r)
   pub serve :
-      Determined Serve.ended (λ M. Serve.clauses)
+      Determined Serve.ended (λ M 𝓤. Serve.clauses)
       (λ κs r e.
       left r.refusal r.sent (lent e.0.now e.1.0.now e.1.1.0.now r.tags)
       e.1.1.1.0.now)
   pub in_place :
-      Determined ServeInPlace.ended (λ M. ServeInPlace.clauses)
+      Determined ServeInPlace.ended (λ M 𝓤. ServeInPlace.clauses)
       (λ κs r e.
       left r.refusal r.sent
       (lent e.0.now e.1.1.0.now e.1.0.now e.1.1.1.1.0.now)
@@ -112,54 +112,54 @@ pub record Controlling : Type 2 where
 
 -- Building: the refusal and the record, and what the output then holds.
 pub record Building : Type 2 where
-  pub begin : Determined Begin.ended (λ M. Begin.clauses) (λ κs r e. r)
-  pub add : Determined Add.ended (λ M. Add.clauses) (λ κs r e. beside r e.0.now)
-  pub close : Determined Close.ended (λ M. Close.clauses) (λ κs r e. beside r e.0.now)
+  pub begin : Determined Begin.ended (λ M 𝓤. Begin.clauses) (λ κs r e. r)
+  pub add : Determined Add.ended (λ M 𝓤. Add.clauses) (λ κs r e. beside r e.0.now)
+  pub close : Determined Close.ended (λ M 𝓤. Close.clauses) (λ κs r e. beside r e.0.now)
 
 -- Sending and outcomes: nothing that is lent can be changed. A part that comes back is its bytes.
 pub record Sending : Type 2 where
-  pub sender-ok : Determined SenderOk.ended (λ M. SenderOk.clauses) (λ κs r e. r)
-  pub refusal-of : Determined RefusalOf.ended (λ M. RefusalOf.clauses) (λ κs r e. r)
-  pub ask : Determined Ask.ended (λ M. Ask.clauses) (λ κs r e. r)
-  pub ask-as : Determined AskAs.ended (λ M. AskAs.clauses) (λ κs r e. r)
-  pub fresh : Determined Fresh.ended (λ M. Fresh.clauses) (λ κs r e. r)
-  pub discovered : Determined Discovered.ended (λ M. Discovered.clauses) (λ κs r e. r)
-  pub offer : Determined Offer.ended (λ M. Offer.clauses) (λ κs r e. r)
-  pub send-refusal : Determined SendRefusal.ended (λ M. SendRefusal.clauses) (λ κs r e. r)
-  pub send : Determined Send.ended (λ M. Send.clauses) (λ κs r e. r.now)
-  pub take : Determined Take.ended (λ M. Take.clauses) (λ κs r e. r)
-  pub told : Determined Told.ended (λ M. Told.clauses) (λ κs r e. r)
-  pub answered : Determined Answered.ended (λ M. Answered.clauses) (λ κs r e. r)
-  pub ended : Determined EndedBy.ended (λ M. EndedBy.clauses) (λ κs r e. r)
-  pub read-span : Determined ReadSpan.ended (λ M. ReadSpan.clauses) (λ κs r e. r)
-  pub read-data : Determined ReadData.ended (λ M. ReadData.clauses) (λ κs r e. r.now)
+  pub sender-ok : Determined SenderOk.ended (λ M 𝓤. SenderOk.clauses) (λ κs r e. r)
+  pub refusal-of : Determined RefusalOf.ended (λ M 𝓤. RefusalOf.clauses) (λ κs r e. r)
+  pub ask : Determined Ask.ended (λ M 𝓤. Ask.clauses) (λ κs r e. r)
+  pub ask-as : Determined AskAs.ended (λ M 𝓤. AskAs.clauses) (λ κs r e. r)
+  pub fresh : Determined Fresh.ended (λ M 𝓤. Fresh.clauses) (λ κs r e. r)
+  pub discovered : Determined Discovered.ended (λ M 𝓤. Discovered.clauses) (λ κs r e. r)
+  pub offer : Determined Offer.ended (λ M 𝓤. Offer.clauses) (λ κs r e. r)
+  pub send-refusal : Determined SendRefusal.ended (λ M 𝓤. SendRefusal.clauses) (λ κs r e. r)
+  pub send : Determined Send.ended (λ M 𝓤. Send.clauses) (λ κs r e. r.now)
+  pub take : Determined Take.ended (λ M 𝓤. Take.clauses) (λ κs r e. r)
+  pub told : Determined Told.ended (λ M 𝓤. Told.clauses) (λ κs r e. r)
+  pub answered : Determined Answered.ended (λ M 𝓤. Answered.clauses) (λ κs r e. r)
+  pub ended : Determined EndedBy.ended (λ M 𝓤. EndedBy.clauses) (λ κs r e. r)
+  pub read-span : Determined ReadSpan.ended (λ M 𝓤. ReadSpan.clauses) (λ κs r e. r)
+  pub read-data : Determined ReadData.ended (λ M 𝓤. ReadData.clauses) (λ κs r e. r.now)
 
 -- The training table: where it stands, its rows and messages, and an attempt at loading it.
 pub record Training : Type 2 where
-  pub set-up : Determined SetUp.ended (λ M. SetUp.clauses) (λ κs r e. r)
-  pub row_of : Determined RowOf.ended (λ M. RowOf.clauses) (λ κs r e. r)
-  pub write : Determined Write.ended (λ M. Write.clauses) (λ κs r e. beside r e.0.now)
-  pub begin : Determined BeginAttempt.ended (λ M. BeginAttempt.clauses) (λ κs r e. r)
-  pub message : Determined Message.ended (λ M. Message.clauses) (λ κs r e. beside r e.0.now)
-  pub take : Determined TakeOn.ended (λ M. TakeOn.clauses) (λ κs r e. r)
+  pub set-up : Determined SetUp.ended (λ M 𝓤. SetUp.clauses) (λ κs r e. r)
+  pub row_of : Determined RowOf.ended (λ M 𝓤. RowOf.clauses) (λ κs r e. r)
+  pub write : Determined Write.ended (λ M 𝓤. Write.clauses) (λ κs r e. beside r e.0.now)
+  pub begin : Determined BeginAttempt.ended (λ M 𝓤. BeginAttempt.clauses) (λ κs r e. r)
+  pub message : Determined Message.ended (λ M 𝓤. Message.clauses) (λ κs r e. beside r e.0.now)
+  pub take : Determined TakeOn.ended (λ M 𝓤. TakeOn.clauses) (λ κs r e. r)
 
 -- The same for C, the building record lent and changed in place.
 pub record InC : Type 2 where
-  pub refusal : Determined RefusalInC.ended (λ M. RefusalInC.clauses) (λ κs r e. r)
-  pub begin : Determined BeginInC.ended (λ M. BeginInC.clauses) (λ κs r e. leaves r e.1.0.now)
-  pub add : Determined AddInC.ended (λ M. AddInC.clauses) (λ κs r e. beside (leaves r e.1.0.now) e.0.now)
+  pub refusal : Determined RefusalInC.ended (λ M 𝓤. RefusalInC.clauses) (λ κs r e. r)
+  pub begin : Determined BeginInC.ended (λ M 𝓤. BeginInC.clauses) (λ κs r e. leaves r e.1.0.now)
+  pub add : Determined AddInC.ended (λ M 𝓤. AddInC.clauses) (λ κs r e. beside (leaves r e.1.0.now) e.0.now)
   pub close :
-      Determined CloseInC.ended (λ M. CloseInC.clauses) (λ κs r e. beside (leaves r e.1.0.now) e.0.now)
-  pub discovery : Determined DiscoveryInC.ended (λ M. DiscoveryInC.clauses) (λ κs r e. r)
-  pub fresh : Determined FreshInC.ended (λ M. FreshInC.clauses) (λ κs r e. r)
-  pub discovered : Determined DiscoveredInC.ended (λ M. DiscoveredInC.clauses) (λ κs r e. r)
-  pub offer : Determined OfferInC.ended (λ M. OfferInC.clauses) (λ κs r e. r)
-  pub send : Determined SendInC.ended (λ M. SendInC.clauses) (λ κs r e. r)
-  pub take : Determined TakeInC.ended (λ M. TakeInC.clauses) (λ κs r e. r)
-  pub count : Determined CountInC.ended (λ M. CountInC.clauses) (λ κs r e. r)
-  pub status : Determined StatusInC.ended (λ M. StatusInC.clauses) (λ κs r e. r)
-  pub read-data : Determined ReadDataInC.ended (λ M. ReadDataInC.clauses) (λ κs r e. r)
-  pub set-up : Determined SetUpInC.ended (λ M. SetUpInC.clauses) (λ κs r e. r)
-  pub attempt : Determined AttemptInC.ended (λ M. AttemptInC.clauses) (λ κs r e. r)
-  pub table-message : Determined MessageInC.ended (λ M. MessageInC.clauses) (λ κs r e. beside r e.0.now)
-  pub table-take : Determined TakeOnInC.ended (λ M. TakeOnInC.clauses) (λ κs r e. r)
+      Determined CloseInC.ended (λ M 𝓤. CloseInC.clauses) (λ κs r e. beside (leaves r e.1.0.now) e.0.now)
+  pub discovery : Determined DiscoveryInC.ended (λ M 𝓤. DiscoveryInC.clauses) (λ κs r e. r)
+  pub fresh : Determined FreshInC.ended (λ M 𝓤. FreshInC.clauses) (λ κs r e. r)
+  pub discovered : Determined DiscoveredInC.ended (λ M 𝓤. DiscoveredInC.clauses) (λ κs r e. r)
+  pub offer : Determined OfferInC.ended (λ M 𝓤. OfferInC.clauses) (λ κs r e. r)
+  pub send : Determined SendInC.ended (λ M 𝓤. SendInC.clauses) (λ κs r e. r)
+  pub take : Determined TakeInC.ended (λ M 𝓤. TakeInC.clauses) (λ κs r e. r)
+  pub count : Determined CountInC.ended (λ M 𝓤. CountInC.clauses) (λ κs r e. r)
+  pub status : Determined StatusInC.ended (λ M 𝓤. StatusInC.clauses) (λ κs r e. r)
+  pub read-data : Determined ReadDataInC.ended (λ M 𝓤. ReadDataInC.clauses) (λ κs r e. r)
+  pub set-up : Determined SetUpInC.ended (λ M 𝓤. SetUpInC.clauses) (λ κs r e. r)
+  pub attempt : Determined AttemptInC.ended (λ M 𝓤. AttemptInC.clauses) (λ κs r e. r)
+  pub table-message : Determined MessageInC.ended (λ M 𝓤. MessageInC.clauses) (λ κs r e. beside r e.0.now)
+  pub table-take : Determined TakeOnInC.ended (λ M 𝓤. TakeOnInC.clauses) (λ κs r e. r)
