@@ -1,12 +1,12 @@
 -- A turn by its cases. The proofs of `serve_record`, `whole` and `play` cite these. Assumes nothing.
 use Prim.Native.Nat.{ℕ, ◌+◌, ◌-◌, ◌/◌, ◌≤◌, ◌<◌}
-use mathlib.Core.Path.{◌≡◌, refl, sym, ap, ◌∙◌, subst}
+use mathlib.Core.Path.{◌≡◌, ap, ◌∙◌}
 use mathlib.Core.Bool.{Bool, true, false}
 use mathlib.Core.List.{List}
 use native.Mathlib.Omega.{arith}
 use borrow.Author.Tests.{le-ltb, lt-ltb, eq-eqb, ne_eqb}
 use lib.ListN.{length, take, drop, get_or, replicate}
-use Rattle.word.specs.Words.{words_of, put}
+use Rattle.word.specs.Words.{words_of}
 use Rattle.word.proofs.Runs.{put-none}
 use Rattle.header.specs.declared.refusal.Refusal.{Refusal}
 use Rattle.header.specs.Limits.{limit_bytes}
@@ -14,7 +14,7 @@ use Rattle.header.specs.Refusal.{refusal}
 use Rattle.completer.specs.Controller.{Controller, After, left}
 use Rattle.completer.specs.Serving.{after}
 use Rattle.night.specs.Text.{Short, line_of, text_of, Wrote}
-use Rattle.night.specs.Night.{record_bytes, length_of, datagram_of, after_record, Turned, turned, whole_turn, turn_of, Left, leaves, left_by}
+use Rattle.night.specs.Night.{record_bytes, length_of, datagram_of, after_record, turned, whole_turn, turn_of, Left, leaves, left_by}
 
 -- the length that a record starts with, over the limit and not
 pub over-limit : (c : Controller) (o got : List ℕ) {n : ℕ} {r : Refusal} → n ≡ get_or (words_of got) 0 0 → limit_bytes < n → r ≡ refusal 2

@@ -1,10 +1,9 @@
 -- A text written behind another is one text. The proofs of `text` cite this. Assumes nothing.
-use Prim.Native.Nat.{ℕ, ◌+◌, ◌≤◌}
+use Prim.Native.Nat.{ℕ, ◌≤◌}
 use mathlib.Core.Path.{◌≡◌, ◌∙◌, subst}
 use mathlib.Core.List.{List, ◌++◌, append_assoc}
 use native.Mathlib.Omega.{arith}
 use lib.ListN.{length, length-append}
-use Rattle.word.specs.Words.{put}
 use Rattle.word.proofs.Runs.{put-put}
 use Rattle.night.specs.Text.{Wrote}
 

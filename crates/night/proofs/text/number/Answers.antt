@@ -1,5 +1,5 @@
 -- `night::text::number` meets its contract: the digits that `io` writes are the definition's, at most 20. Assumes nothing.
-use Rattle.std.proofs.Common.{◌≡◌, ◌≤◌, List, ℕ, take, subst, arith}
+use Rattle.std.proofs.Common.{◌≡◌, ◌≤◌, List, ℕ, take, subst}
 use Rattle.night.specs.Text.{decimal, Wrote}
 use Rattle.night.proofs.Inner.Decimal.{decimal-is, few-digits}
 use Rattle.night.proofs.text.number.Goals as goal
