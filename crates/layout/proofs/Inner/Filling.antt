@@ -24,9 +24,10 @@ use Rattle.building.specs.Sequence.{begins, adds}
 use Rattle.building.proofs.Laws.Fitting.{begun-well, begun-byte, command-asked, added-well, added-byte}
 use Rattle.layout.specs.declared.Stage.{Stage}
 use Rattle.layout.specs.declared.Stage.TheVariants.{Clear, Rows, Back, Mark}
-use Rattle.layout.specs.Layout.{each_from, row_count, complete, row_of, row_address, mark_address, mark_write}
+use Rattle.layout.specs.Layout.{each_from, row_count, complete, row_of, mark_write}
 use Rattle.layout.specs.Filling.{Going, Below, row_by, Rowed, writes, reads, Row, RowsAdded, MarkAdded, StageAdded}
 use Rattle.layout.proofs.Laws.Layout.{row-long, row-write-is, row-read-is, mark-write-is}
+use Rattle.layout.proofs.Inner.Wanted.{row_asked, mark_asked}
 use Rattle.layout.proofs.Inner.Commands.{byte_of, each-end, one_each, open-long, replies-long}
 use Rattle.layout.proofs.Inner.Commands.{row_words, row_reply, row-shape, mark-shape, row_fits, mark-fits}
 
@@ -66,13 +67,7 @@ module _ {o : List ℕ} {kind : Kind} {tag : ℕ} {cs : List Command} {b : Build
         byte0 = ap byte0_by p ∙ added-byte g.adding asked payload first last f' short' few' ∙ g.byte0;
       }
 
--- the table's: what is asked for is the row's command or the mark's, and the message stays within the limit
-abbrev row_asked : ℕ → ℕ → Asked
-row_asked start i = record { address = row_address start i; first = 15; last = 15; count = 8 }
-
-abbrev mark_asked : ℕ → Asked
-mark_asked start = record { address = mark_address start; first = 15; last = 0; count = 1 }
-
+-- what is asked for is the row's command or the mark's, and the message stays within the limit
 row-asked : {kind : Kind} → Rowed kind → (tag : ℕ) → tag < tag_count → (start : ℕ) (rows : List ℕ) (i : ℕ)
     → command_by (byte_of kind tag) (row_asked start i) (row_of rows i) ≡ row_by kind start rows i
 row-asked writes tag small start rows i =
