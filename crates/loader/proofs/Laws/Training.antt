@@ -61,21 +61,21 @@ message-as-made a start room rows out =
     (λ n. let r = made-refused b start room rows out (λ z. n (made-refusal b start room rows out ∙ z)) in
     (ap (λ (x : Made). x.length) r, ap (λ (x : Made). x.attempt) r))
 
-as-taken : (a : TableAttempt) (taken : Taken) → ((taken.refusal.number ≡ 0 → ⊥) → taken.attempt ≡ attempt_of a)
-    → AsTaken a taken (taken_by taken a)
-as-taken a taken stays = go (eqb taken.refusal.number 0) refl
-  where
-    go : (t : Bool) → eqb taken.refusal.number 0 ≡ t → AsTaken a taken (taken_by taken a)
-    go true q =
-        let z = eqb-true taken.refusal.number 0 q in
-        subst (AsTaken a taken) (sym (taken-so taken a z))
-        (record { refusal = refl; attempt = numbers-tell taken.attempt; stays = λ n. absurd (n z) })
-    go false q =
-        let n = eqb-false taken.refusal.number 0 q in
-        subst (AsTaken a taken) (sym (taken_not taken a n))
-        (record { refusal = refl; attempt = sym (stays n); stays = λ n'. refl })
-
 pub answer-as-taken : AnswerAsTaken
 unfolding table_taken_of
 answer-as-taken a message answer rows =
-    as-taken a (taken_of (attempt_of a) message answer rows) (refused-stays (attempt_of a) message answer rows)
+    as-taken (taken_of (attempt_of a) message answer rows) (refused-stays (attempt_of a) message answer rows)
+  where
+    as-taken : (taken : Taken) → ((taken.refusal.number ≡ 0 → ⊥) → taken.attempt ≡ attempt_of a)
+        → AsTaken a taken (taken_by taken a)
+    as-taken taken stays = go (eqb taken.refusal.number 0) refl
+      where
+        go : (t : Bool) → eqb taken.refusal.number 0 ≡ t → AsTaken a taken (taken_by taken a)
+        go true q =
+            let z = eqb-true taken.refusal.number 0 q in
+            subst (AsTaken a taken) (sym (taken-so taken a z))
+            (record { refusal = refl; attempt = numbers-tell taken.attempt; stays = λ n. absurd (n z) })
+        go false q =
+            let n = eqb-false taken.refusal.number 0 q in
+            subst (AsTaken a taken) (sym (taken_not taken a n))
+            (record { refusal = refl; attempt = sym (stays n); stays = λ n'. refl })

@@ -8,7 +8,7 @@ use mathlib.Core.Logic.{◌⊎◌, inl, inr}
 use native.Mathlib.Omega.{arith}
 use borrow.Author.Tests.{eqb-true, eqb-false}
 use lib.Dec.{eqb}
-use Rattle.word.proofs.Same.{same_self, same-equal}
+use Rattle.word.proofs.Same.{same-equal}
 use Rattle.answer.specs.declared.Status.TheVariants.{Ok, Timeout, Error}
 use Rattle.initiator.specs.declared.outcome.Ending.{Ending}
 use Rattle.initiator.specs.declared.outcome.Ending.TheVariants.{Absent, Ended}
@@ -22,6 +22,7 @@ use Rattle.table.specs.Promises.{Well, AsSent, EveryRow, FirstNot}
 use Rattle.table.proofs.Laws.Attempt.{next-clear, next-rows, next-back, next-mark, marking-well, marking-bad}
 use Rattle.table.proofs.Laws.Attempt.{through-none, through-well, through-bad}
 use Rattle.table.proofs.Laws.Attempt.{wrote-is, read_is}
+use Rattle.table.proofs.Laws.Sent.{sent-on}
 
 -- OK is the one ending that is well
 ok-is : (e : Ending) → is_ok e ≡ true → e ≡ Ended Ok
@@ -41,9 +42,6 @@ module _ (told : Told) (i : ℕ) where
 
   pub on-well : is_ok (told.ending i) ≡ true → Well told i
   on-well = ok-is (told.ending i)
-
-  pub sent-on : (rows : List ℕ) → AsSent rows told i → read_row rows told i ≡ true
-  sent-on rows s = read_is told i rows ∙ rw (well-on s.0, s.1) (same_self _)
 
   pub on-sent : (rows : List ℕ) → read_row rows told i ≡ true → AsSent rows told i
   on-sent rows e =

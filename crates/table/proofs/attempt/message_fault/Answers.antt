@@ -1,5 +1,6 @@
 -- `table::attempt::message_fault` meets its contract: each check is a line of `message_fault`, in its order. Assumes
 -- nothing.
+use Prim.Native.Nat.{ℕ}
 use mathlib.Core.Path.{◌≡◌, sym, ◌∙◌}
 use mathlib.Core.Bool.{true}
 use lib.Dec.{eqb}
@@ -7,6 +8,10 @@ use Rattle.word.proofs.Rules.{tests, flag-on, flag_off}
 use Rattle.layout.proofs.Laws.Layout.{set-up-ok, set-up-off}
 use Rattle.table.specs.Calls.{message_fault}
 use Rattle.table.proofs.attempt.message_fault.Goals as goal
+
+-- what is so behind 36
+abbrev Past-36 : ℕ → Type 0
+Past-36 waiting = eqb waiting 0 ≡ true
 
 -- 40
 pub returns-then-set_up-ne0 : goal.returns-then-set_up-ne0
@@ -28,18 +33,18 @@ returns-then-sender-ne0 c =
 pub returns-then-not-sends : goal.returns-then-not-sends
 unfolding message_fault
 returns-then-not-sends c =
-    let e : eqb c.args.attempt.sender.waiting 0 ≡ true = search tests in
+    let e : Past-36 c.args.attempt.sender.waiting = search tests in
     rw (set-up-ok c.args.start c.args.room (sym c.set_up.ensures ∙ c.if-set_up-ne0.false), flag-on c.sender_ok.ensures c.if-not-sender_ok.false, e, flag_off c.sends.ensures c.if-not-sends.true)
 
 -- 21
 pub returns-then-long-lt-LIMIT_BYTES : goal.returns-then-long-lt-LIMIT_BYTES
 unfolding message_fault
 returns-then-long-lt-LIMIT_BYTES c =
-    let e : eqb c.args.attempt.sender.waiting 0 ≡ true = search tests in
+    let e : Past-36 c.args.attempt.sender.waiting = search tests in
     rw (set-up-ok c.args.start c.args.room (sym c.set_up.ensures ∙ c.if-set_up-ne0.false), flag-on c.sender_ok.ensures c.if-not-sender_ok.false, e, flag-on c.sends.ensures c.if-not-sends.false) (search tests)
 
 pub returns : goal.returns
 unfolding message_fault
 returns c =
-    let e : eqb c.args.attempt.sender.waiting 0 ≡ true = search tests in
+    let e : Past-36 c.args.attempt.sender.waiting = search tests in
     rw (set-up-ok c.args.start c.args.room (sym c.set_up.ensures ∙ c.if-set_up-ne0.false), flag-on c.sender_ok.ensures c.if-not-sender_ok.false, e, flag-on c.sends.ensures c.if-not-sends.false) (search tests)
