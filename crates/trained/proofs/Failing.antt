@@ -35,6 +35,7 @@ use Rattle.table.proofs.Laws.Came.{well-on, on-well, not-clear, after-mark}
 use Rattle.trained.specs.Loading.{mark_in}
 use Rattle.trained.specs.Attempts.{unanswered, told_by, told_bys, Asks, Attempts}
 use Rattle.trained.specs.Failing.{carried_out, did_from, did_all, FailedLeaves, OursIsTrue}
+use Rattle.trained.proofs.Carried.{ok-carried}
 use Rattle.trained.proofs.Writing.{asks-kind, asks-commands, moved_on, stopped, mark-moved}
 use Rattle.trained.proofs.Stages.{place, done-stays}
 use Rattle.trained.proofs.Telling.{outcome_from, outcome-asked, first-fails, first_done}
@@ -56,13 +57,7 @@ did-is {start} {rows} {stage} {d} a told m =
     ap (λ (k : Kind). did_from k 0 (request_of d).commands told m) (asks-kind a)
     ∙ ap (λ (cs : List Command). did_from (kind_at stage) 0 cs told m) (asks-commands a)
 
--- what ended in OK was carried out, and nothing else
-ok-carried : (e : Ending) → is_ok e ≡ true → carried_out e ≡ true
-ok-carried Absent w = w
-ok-carried (outcome.Ended Ok) w = w
-ok-carried (outcome.Ended Timeout) w = w
-ok-carried (outcome.Ended Error) w = w
-
+-- what ended otherwise than in OK was not carried out
 failed-not : (e : Ending) → is_ok e ≡ false → carried_out e ≡ false
 failed-not Absent w = w
 failed-not (outcome.Ended Ok) w = w
