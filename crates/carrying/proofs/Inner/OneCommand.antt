@@ -1,7 +1,7 @@
 -- One command: what is known where it stands, and what each way of carrying it out comes to. The proofs of `carrying` cite these.
 -- Assumes nothing.
 use Prim.Native.Nat.{ℕ, ◌+◌, ◌*◌, ◌/◌, ◌≤◌}
-use mathlib.Core.Path.{◌≡◌, refl, sym, ◌∙◌}
+use mathlib.Core.Path.{◌≡◌, refl, sym, ap, ◌∙◌}
 use mathlib.Core.Bool.{Bool, true, false, false≢true}
 use mathlib.Core.List.{List, [], ◌∷◌}
 use native.Mathlib.Omega.{arith}
@@ -56,6 +56,11 @@ fitting {t} dg {at} {n} {count} {kind} h k e =
     let q : kind_of t.byte0 ≡ kind = sym h.kind ∙ k in
     let i : at + 1 + (address_words t.byte0 + data_words kind count) ≤ length (words_of dg) = rw (← q, e) h.inside in
     record { counted = counted_is kind count (rw (← q, e) h.counted); body = omega (arith, length-words_of dg); room = rw (← q, e) h.room }
+
+-- the same of its header as it was read, and of the count in that
+pub fitting_read : {t : Task} (dg : List ℕ) {at n h count : ℕ} {kind : Kind} → Here t (words_of dg) at n → t.kind ≡ kind
+    → count ≡ count_of h → h ≡ get_or (words_of dg) at 0 → Fitting kind dg t.byte0 at n count
+fitting_read dg here k e w = fitting dg here k (e ∙ ap count_of w)
 
 -- a command that fails, and one that is done
 module _ (t : Task) (c : Command) (last : Bool) (behind n : ℕ) (m s o : List ℕ) where

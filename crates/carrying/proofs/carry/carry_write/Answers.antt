@@ -5,14 +5,16 @@ use native.Mathlib.Omega.{arith}
 use Rattle.header.specs.declared.Kind.TheVariants.{Write}
 use Rattle.header.specs.Header.{count_of, last_of, byte1_of}
 use Rattle.memory.proofs.Laws.Moving.{within}
-use Rattle.carrying.proofs.Inner.OneCommand.{fitting, failed-there, did_write}
+use Rattle.carrying.proofs.Inner.OneCommand.{fitting, fitting_read, failed-there, did_write}
 use Rattle.carrying.proofs.carry.carry_write.Goals as goal
 
 pub word_at-h-requires : goal.word_at-h-requires
 word_at-h-requires c = let g = fitting c.args.datagram.now c.requires.0 c.requires.2 refl in omega arith
 
 pub address_at-address-requires : goal.address_at-address-requires
-address_at-address-requires c = let g = fitting c.args.datagram.now c.requires.0 c.requires.2 (c.count-count.ensures.value ∙ ap count_of c.word_at-h.ensures) in omega arith
+address_at-address-requires c =
+    let g = fitting_read c.args.datagram.now c.requires.0 c.requires.2 c.count-count.ensures.value c.word_at-h.ensures in
+    omega arith
 
 pub returns-then-outside : goal.returns-then-outside
 returns-then-outside c =
@@ -21,14 +23,18 @@ returns-then-outside c =
     c.outside.ensures c.if-outside.true c.fail.ensures
 
 pub overflow_add-from : goal.overflow_add-from
-overflow_add-from c = let g = fitting c.args.datagram.now c.requires.0 c.requires.2 (c.count-count.ensures.value ∙ ap count_of c.word_at-h.ensures) in omega arith
+overflow_add-from c =
+    let g = fitting_read c.args.datagram.now c.requires.0 c.requires.2 c.count-count.ensures.value c.word_at-h.ensures in
+    omega arith
 
 pub overflow_add-from-2 : goal.overflow_add-from-2
-overflow_add-from-2 c = let g = fitting c.args.datagram.now c.requires.0 c.requires.2 (c.count-count.ensures.value ∙ ap count_of c.word_at-h.ensures) in omega arith
+overflow_add-from-2 c =
+    let g = fitting_read c.args.datagram.now c.requires.0 c.requires.2 c.count-count.ensures.value c.word_at-h.ensures in
+    omega arith
 
 pub store_all-next-requires : goal.store_all-next-requires
 store_all-next-requires c =
-    let g = fitting c.args.datagram.now c.requires.0 c.requires.2 (c.count-count.ensures.value ∙ ap count_of c.word_at-h.ensures) in
+    let g = fitting_read c.args.datagram.now c.requires.0 c.requires.2 c.count-count.ensures.value c.word_at-h.ensures in
     let r = within _ _ _ (sym c.outside.ensures ∙ c.if-outside.false) in
     (omega arith, omega arith, omega arith, omega arith)
 

@@ -19,18 +19,24 @@ returns-in_default c =
 
 pub told_by-told-requires : goal.told_by-told-requires
 told_by-told-requires c =
+    let f = asks-found _ _ (sym c.sending-asking.ensures ∙ c.in-Asks.is) in
     let b : Bytes c.args.message.now = below_all 256 _ (λ i. let k = c.shared_slice_known-1.given i in omega arith) in
-    ready _ (asks-found _ _ (sym c.sending-asking.ensures ∙ c.in-Asks.is)).request b (sends _ _ _ (asks-found _ _ (sym c.sending-asking.ensures ∙ c.in-Asks.is)).is).is (asks-found _ _ (sym c.sending-asking.ensures ∙ c.in-Asks.is)).first
+    ready _ f.request b (sends _ _ _ f.is).is f.first
 
 pub returns-then-refusal-ne0 : goal.returns-then-refusal-ne0
 returns-then-refusal-ne0 c =
-    c.not_taken-then-refusal-ne0.ensures ∙ take-wrong _ _ _ _ (asks-found _ _ (sym c.sending-asking.ensures ∙ c.in-Asks.is)).is (told-refusal _ _ _ c.told_by-told.ensures) c.if-refusal-ne0.true
+    let f = asks-found _ _ (sym c.sending-asking.ensures ∙ c.in-Asks.is) in
+    c.not_taken-then-refusal-ne0.ensures ∙ take-wrong _ _ _ _ f.is (told-refusal _ _ _ c.told_by-told.ensures) c.if-refusal-ne0.true
 
 pub place_in-requires : goal.place_in-requires
-place_in-requires c = record { next_lt_tag_count = ok-next _ (sends _ _ _ (asks-found _ _ (sym c.sending-asking.ensures ∙ c.in-Asks.is)).is).ok; tag_lt_tag_count = search rules }
+place_in-requires c =
+    let f = asks-found _ _ (sym c.sending-asking.ensures ∙ c.in-Asks.is) in
+    record { next_lt_tag_count = ok-next _ (sends _ _ _ f.is).ok; tag_lt_tag_count = search rules }
 
 pub accepted_at-requires : goal.accepted_at-requires
-accepted_at-requires c = record { next_lt_tag_count = ok-next _ (sends _ _ _ (asks-found _ _ (sym c.sending-asking.ensures ∙ c.in-Asks.is)).is).ok; waiting_nonzero = (sends _ _ _ (asks-found _ _ (sym c.sending-asking.ensures ∙ c.in-Asks.is)).is).some }
+accepted_at-requires c =
+    let f = asks-found _ _ (sym c.sending-asking.ensures ∙ c.in-Asks.is) in
+    record { next_lt_tag_count = ok-next _ (sends _ _ _ f.is).ok; waiting_nonzero = (sends _ _ _ f.is).some }
 
 pub returns : goal.returns
 returns c =

@@ -2,22 +2,24 @@
 use mathlib.Core.Path.{◌≡◌, sym, ◌∙◌, ap}
 use mathlib.Core.Bool.{Bool, cond}
 use Prim.Native.Nat.{ℕ}
-use Rattle.header.specs.declared.Kind.{Kind}
+use mathlib.Core.List.{List}
+use Rattle.header.specs.declared.Head.{Head}
+use Rattle.message.specs.declared.walk.Step.TheVariants.{Read}
 use native.Mathlib.Omega.{arith}
 use Rattle.word.proofs.Crossing.{length-words_of}
 use Rattle.message.specs.declared.walk.Walked.TheVariants.{Refused}
 use Rattle.header.specs.Header.{kind_of, reply_words}
-use Rattle.message.specs.Walk.{refusal_of}
+use Rattle.message.specs.Faults.{is_write}
+use Rattle.message.specs.Walk.{refusal_of, step_at}
 use Rattle.message.proofs.Laws.Going.{reply-by, got, going-starts, going-refused, going-last, going-small, going_on, going_less}
 use Rattle.message.proofs.walk.walk_on.Goals as goal
 
 -- the words of the OK answer to a header that was read
-reply-is : {reply : ℕ} {writes asked : Bool} (kind : Kind) (count : ℕ)
-    → reply ≡ cond writes 0 count
-    → writes ≡ asked
-    → cond asked 0 count ≡ reply_words kind count
-    → reply ≡ reply_words kind count
-reply-is kind count e w r = e ∙ ap (λ (b : Bool). cond b 0 count) w ∙ r
+reply-is : {reply : ℕ} {writes : Bool} {head : Head} (byte0 : ℕ) (ws : List ℕ) (at : ℕ)
+    → reply ≡ cond writes 0 head.count → writes ≡ is_write (kind_of byte0) → step_at byte0 ws at ≡ Read head
+    → reply ≡ reply_words (kind_of byte0) head.count
+reply-is {head = head} byte0 ws at e w s =
+    e ∙ ap (λ (b : Bool). cond b 0 head.count) w ∙ reply-by (kind_of byte0) head.count (got _ _ _ _ s).asking
 
 pub loop-head-init : goal.loop-head-init
 loop-head-init c = going-starts _ _ (omega (arith, length-words_of c.args.datagram.now))
@@ -37,11 +39,14 @@ overflow_add-answer c = let g = c.loop-head.invariant in omega (arith, g.small, 
 pub overflow_add-answer-in-loop-head : goal.overflow_add-answer-in-loop-head
 overflow_add-answer-in-loop-head c =
     let g = c.loop-head.invariant in
-    omega (arith, going-small g _ (sym c.step_at-s.ensures ∙ c.in-Read.is), g.within, g.most, (reply-is (kind_of c.args.byte0) c.in-Read.head.count c.reply.ensures c.writes-writes.ensures (reply-by (kind_of c.args.byte0) c.in-Read.head.count (got _ _ _ _ (sym c.step_at-s.ensures ∙ c.in-Read.is)).asking)))
+    let s = sym c.step_at-s.ensures ∙ c.in-Read.is in
+    omega (arith, going-small g _ s, g.within, g.most, reply-is _ _ _ c.reply.ensures c.writes-writes.ensures s)
 
 pub returns-then-head : goal.returns-then-head
 returns-then-head c =
-    c.end.ensures ∙ rw (reply-is (kind_of c.args.byte0) c.in-Read.head.count c.reply.ensures c.writes-writes.ensures (reply-by (kind_of c.args.byte0) c.in-Read.head.count (got _ _ _ _ (sym c.step_at-s.ensures ∙ c.in-Read.is)).asking)) (going-last c.loop-head.invariant _ (sym c.step_at-s.ensures ∙ c.in-Read.is) c.if-head.true)
+    let s = sym c.step_at-s.ensures ∙ c.in-Read.is in
+    let w = reply-is _ _ _ c.reply.ensures c.writes-writes.ensures s in
+    c.end.ensures ∙ rw w (going-last c.loop-head.invariant _ s c.if-head.true)
 
 pub overflow_add-at : goal.overflow_add-at
 overflow_add-at c = let g = c.loop-head.invariant in omega (arith, g.within, g.most)
@@ -55,4 +60,6 @@ loop-head-smaller c = going_less c.loop-head.invariant _ (sym c.step_at-s.ensure
 
 pub loop-head-preserved : goal.loop-head-preserved
 loop-head-preserved c =
-    rw (reply-is (kind_of c.args.byte0) c.in-Read.head.count c.reply.ensures c.writes-writes.ensures (reply-by (kind_of c.args.byte0) c.in-Read.head.count (got _ _ _ _ (sym c.step_at-s.ensures ∙ c.in-Read.is)).asking)) (going_on c.loop-head.invariant _ (sym c.step_at-s.ensures ∙ c.in-Read.is) c.if-head.false)
+    let s = sym c.step_at-s.ensures ∙ c.in-Read.is in
+    let w = reply-is _ _ _ c.reply.ensures c.writes-writes.ensures s in
+    rw w (going_on c.loop-head.invariant _ s c.if-head.false)

@@ -17,28 +17,41 @@ returns-then-refusal-ne0 c =
 
 pub returns-in_default : goal.returns-in_default
 returns-in_default c =
+    let b = c.byte0_from-byte0.ensures.value ∙ discovery-byte in
+    let p = sym (number_is c.head_refusal-refusal.ensures) ∙ c.if-refusal-ne0.false in
     let t = c.in_default.is in
-    c.spoilt-in_default.ensures ∙ ap spoiled (c.refusal_of.ensures ∙ ap look_refusal t) ∙ start-bad _ _ (c.byte0_from-byte0.ensures.value ∙ discovery-byte) (sym (number_is c.head_refusal-refusal.ensures) ∙ c.if-refusal-ne0.false) _ (sym c.look_at-look.ensures ∙ t)
+    c.spoilt-in_default.ensures ∙ ap spoiled (c.refusal_of.ensures ∙ ap look_refusal t) ∙ start-bad _ _ b p _ (sym c.look_at-look.ensures ∙ t)
 
 pub word_at-requires : goal.word_at-requires
 word_at-requires c =
-    let s = (sym c.look_at-look.ensures ∙ c.in-Item.is) in
+    let b = c.byte0_from-byte0.ensures.value ∙ discovery-byte in
+    let p = sym (number_is c.head_refusal-refusal.ensures) ∙ c.if-refusal-ne0.false in
+    let s = sym c.look_at-look.ensures ∙ c.in-Item.is in
     omega (
       arith,
       length-words_of c.args.answer.now,
-      (start-found _ _ (c.byte0_from-byte0.ensures.value ∙ discovery-byte) (sym (number_is c.head_refusal-refusal.ensures) ∙ c.if-refusal-ne0.false) _ s).within,
-      start-two _ _ (c.byte0_from-byte0.ensures.value ∙ discovery-byte) (sym (number_is c.head_refusal-refusal.ensures) ∙ c.if-refusal-ne0.false) _ s c.in-Ok.is,
+      (start-found _ _ b p _ s).within,
+      start-two _ _ b p _ s c.in-Ok.is,
     )
 
 pub returns-in-Ok : goal.returns-in-Ok
 returns-in-Ok c =
-    let word = start_word _ _ (c.byte0_from-byte0.ensures.value ∙ discovery-byte) (sym (number_is c.head_refusal-refusal.ensures) ∙ c.if-refusal-ne0.false) _ (sym c.look_at-look.ensures ∙ c.in-Item.is) c.in-Ok.is in
-    c.started.ensures ∙ ap started_at (c.word_at.ensures ∙ sym word) ∙ start-as _ _ (c.byte0_from-byte0.ensures.value ∙ discovery-byte) (sym (number_is c.head_refusal-refusal.ensures) ∙ c.if-refusal-ne0.false) _ (sym c.look_at-look.ensures ∙ c.in-Item.is) Ok c.in-Ok.is
+    let b = c.byte0_from-byte0.ensures.value ∙ discovery-byte in
+    let p = sym (number_is c.head_refusal-refusal.ensures) ∙ c.if-refusal-ne0.false in
+    let s = sym c.look_at-look.ensures ∙ c.in-Item.is in
+    let word = start_word _ _ b p _ s c.in-Ok.is in
+    c.started.ensures ∙ ap started_at (c.word_at.ensures ∙ sym word) ∙ start-as _ _ b p _ s Ok c.in-Ok.is
 
 pub returns-in-Timeout : goal.returns-in-Timeout
 returns-in-Timeout c =
-    c.spoilt-in-Timeout.ensures ∙ ap spoiled c.of.ensures ∙ start-as _ _ (c.byte0_from-byte0.ensures.value ∙ discovery-byte) (sym (number_is c.head_refusal-refusal.ensures) ∙ c.if-refusal-ne0.false) _ (sym c.look_at-look.ensures ∙ c.in-Item.is) Timeout c.in-Timeout.is
+    let b = c.byte0_from-byte0.ensures.value ∙ discovery-byte in
+    let p = sym (number_is c.head_refusal-refusal.ensures) ∙ c.if-refusal-ne0.false in
+    let s = sym c.look_at-look.ensures ∙ c.in-Item.is in
+    c.spoilt-in-Timeout.ensures ∙ ap spoiled c.of.ensures ∙ start-as _ _ b p _ s Timeout c.in-Timeout.is
 
 pub returns-in-Error : goal.returns-in-Error
 returns-in-Error c =
-    c.spoilt-in-Error.ensures ∙ ap spoiled c.of-in-Error.ensures ∙ start-as _ _ (c.byte0_from-byte0.ensures.value ∙ discovery-byte) (sym (number_is c.head_refusal-refusal.ensures) ∙ c.if-refusal-ne0.false) _ (sym c.look_at-look.ensures ∙ c.in-Item.is) Error c.in-Error.is
+    let b = c.byte0_from-byte0.ensures.value ∙ discovery-byte in
+    let p = sym (number_is c.head_refusal-refusal.ensures) ∙ c.if-refusal-ne0.false in
+    let s = sym c.look_at-look.ensures ∙ c.in-Item.is in
+    c.spoilt-in-Error.ensures ∙ ap spoiled c.of-in-Error.ensures ∙ start-as _ _ b p _ s Error c.in-Error.is
