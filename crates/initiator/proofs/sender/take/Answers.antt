@@ -19,8 +19,8 @@ returns-in_default c =
 
 pub told_by-told-requires : goal.told_by-told-requires
 told_by-told-requires c =
-    let f = asks-found _ _ (sym c.sending-asking.ensures ∙ c.in-Asks.is) in
     let b : Bytes c.args.message.now = below_all 256 _ (λ i. let k = c.shared_slice_known-1.given i in omega arith) in
+    let f = asks-found _ _ (sym c.sending-asking.ensures ∙ c.in-Asks.is) in
     ready _ f.request b (sends _ _ _ f.is).is f.first
 
 pub returns-then-refusal-ne0 : goal.returns-then-refusal-ne0
