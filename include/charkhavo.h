@@ -4,7 +4,8 @@
  * arrives, charkhavo_serve. libloader.a is the cold-start loader's end: all other calls, which
  * build messages, send up to four until their answers are accepted, and tell what these say; and,
  * above them, load the training table. Either may be linked without the other; from elsewhere they
- * need memmove alone, on 32-bit Arm also memcpy and, on armv7a, a division (host/README.md).
+ * need memmove alone, on 32-bit Arm also memcpy, memset and, on armv7a, a division
+ * (host/README.md).
  *
  * Nothing over 16 bytes goes by value: a larger record is lent by pointer and changed in place.
  *

@@ -94,3 +94,10 @@ ALSO(memcpy);
 ALSO(__aeabi_memcpy);
 ALSO(__aeabi_memmove);
 ALSO(__aeabi_memmove4);
+
+#define CLEARS(name)                                                                     \
+    void name(void *to, size_t length) {                                                 \
+        memset(to, 0, length);                                                           \
+    }
+CLEARS(__aeabi_memclr4)
+CLEARS(__aeabi_memclr8)
