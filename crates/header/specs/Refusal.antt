@@ -1,5 +1,5 @@
 -- A refusal: its number and its index, and a chain of checks. Assumes nothing.
-use Rattle.std.specs.Prelude.{ℕ, Bool, cond}
+use Rattle.std.specs.Prelude.{ℕ, Bool, cond, eqb, Result, Ok, Err, ⊤}
 use Rattle.header.specs.declared.refusal.Refusal.{Refusal}
 
 -- "refusals .. give the index, from 0, of the header word being looked at": number n of the table, at word `at`
@@ -13,3 +13,7 @@ refusal n = refused_at n 0
 -- the number or the refusal r, unless all is well so far: then what the next check says
 abbrev pub unless : {A : Type 0} → Bool → A → A → A
 unless ok r next = cond ok next r
+
+-- a refusal as a function gives it back; number 0 is none
+abbrev pub as_result : Refusal → Result ⊤ Refusal
+as_result r = cond (eqb r.number 0) (Ok tt) (Err r)

@@ -1,5 +1,5 @@
 -- What a request means, and its writing to bytes. Assumes nothing.
-use Rattle.std.specs.Prelude.{ℕ, ◌+◌, ◌<◌, ◌≤◌, ◌≡◌, Bool, true, false, List, [], ◌∷◌, ◌++◌, length}
+use Rattle.std.specs.Prelude.{ℕ, ◌+◌, ◌<◌, ◌≤◌, ◌≡◌, Bool, true, false, List, [], ◌∷◌, ◌++◌, length, Result, Ok, Err}
 use Rattle.word.specs.Words.{bytes_of, Words}
 use Rattle.header.specs.declared.refusal.Refusal.{Refusal}
 use Rattle.header.specs.Limits.{limit}
@@ -30,6 +30,11 @@ pub data Reading (A : Type 0) : Type 0 where
 abbrev pub refusal_in : {A : Type 0} → Reading A → Refusal
 refusal_in (Refused r) = r
 refusal_in (Means a) = refusal 0
+
+-- what a function gives back of a reading
+abbrev pub given : {A B : Type 0} → (A → B) → Reading A → Result B Refusal
+given f (Refused r) = Err r
+given f (Means a) = Ok (f a)
 
 -- a command before those that follow it
 abbrev pub before : {A : Type 0} → A → Reading (List A) → Reading (List A)
