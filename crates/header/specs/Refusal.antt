@@ -17,3 +17,7 @@ unless ok r next = cond ok next r
 -- a refusal as a function gives it back; number 0 is none
 abbrev pub as_result : Refusal → Result ⊤ Refusal
 as_result r = cond (eqb r.number 0) (Ok tt) (Err r)
+
+-- a refusal with a value beside it, as a function gives them back: the value where nothing is refused
+abbrev pub result_of : {A : Type 0} → Refusal → A → Result A Refusal
+result_of r a = cond (eqb r.number 0) (Ok a) (Err r)
