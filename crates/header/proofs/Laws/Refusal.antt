@@ -5,7 +5,10 @@ use mathlib.Core.Bool.{Bool, true, false}
 use native.Mathlib.Nat.{add-zero}
 use native.Mathlib.Omega.{arith}
 use Rattle.header.specs.declared.refusal.Refusal.{Refusal}
-use Rattle.header.specs.Refusal.{refused_at, unless}
+use lib.Dec.{eqb}
+use borrow.Author.Tests.{eqb-true, eqb-false}
+use Rattle.std.proofs.Common.{cond, Ok, Err}
+use Rattle.header.specs.Refusal.{refused_at, unless, result_of}
 
 -- a check that found no fault
 pub passed : (ok : Bool) (n x : ℕ) → 0 < n → unless ok n x ≡ 0 → (ok ≡ true) × (x ≡ 0)
@@ -46,3 +49,18 @@ number_is e = ap (λ (x : Refusal). x.number) e
 
 pub at-is : {q r : Refusal} → q ≡ r → q.at ≡ r.at
 at-is e = ap (λ (x : Refusal). x.at) e
+
+-- what a function gave back tells of its refusal and its value
+pub ok_of : {A : Type 0} {x : A} (r : Refusal) (a : A) → Ok x ≡ result_of r a → (r.number ≡ 0) × (x ≡ a)
+ok_of {A} {x} r a h = go (eqb r.number 0) refl h
+  where
+    go : (t : Bool) → eqb r.number 0 ≡ t → Ok x ≡ cond t (Ok a) (Err r) → (r.number ≡ 0) × (x ≡ a)
+    go true e h = (eqb-true _ _ e, cc)
+    go false e h = absurd (cc)
+
+pub err_of : {A : Type 0} {e : Refusal} (r : Refusal) (a : A) → Err e ≡ result_of r a → (e ≡ r) × (r.number ≡ 0 → ⊥)
+err_of {A} {e} r a h = go (eqb r.number 0) refl h
+  where
+    go : (t : Bool) → eqb r.number 0 ≡ t → Err e ≡ cond t (Ok a) (Err r) → (e ≡ r) × (r.number ≡ 0 → ⊥)
+    go true z h = absurd (cc)
+    go false z h = (cc, eqb-false _ _ z)
