@@ -165,5 +165,5 @@ fn main() {
     let ends = night();
     let memory = ends.memory;
     show::say(b"memory");
-    show::words(&memory);
+    show::say_words(&memory);
 }

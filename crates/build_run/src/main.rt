@@ -69,7 +69,7 @@ fn begun(out: &[u8], kind: u32, tag: u32, wide: bool, discovery: bool) -> Buildi
 // A command of the first n of the words added.
 fn added(out: &mut [u8], b: Building, asked: Asked, words: [u32; 3], n: usize) -> Building {
     show::say(b"add");
-    told(build::add(out, b, asked, show::front_words(&words, n)))
+    told(build::add(out, b, asked, show::front(&words, n)))
 }
 
 // The message closed, and its words.

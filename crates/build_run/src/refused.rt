@@ -71,7 +71,7 @@ fn closes(kind: u32, words: usize, last: usize, answer: usize, closed: bool) {
 fn adds(b: Building, asked: Asked, n: usize) {
     let mut out = [0u8; limits::LIMIT_BYTES];
     let words = [0u32; 4096];
-    told(build::add(&mut out, b, asked, show::front_words(&words, n)));
+    told(build::add(&mut out, b, asked, show::front(&words, n)));
 }
 
 // The first command of a message.

@@ -67,6 +67,6 @@ pub fn serves(memory: &mut [u32], c: Controller, datagram: &[u8]) -> Arrived
     let answer = arrived.answer;
     let bytes = answer.bytes;
     show::say(b":");
-    show::bytes(show::front(&bytes, answer.n));
+    show::say_bytes(show::front(&bytes, answer.n));
     arrived
 }

@@ -62,7 +62,7 @@ pub fn offer(s: Sender, message: Bytes) -> Sender
     let then = moved.sender;
     say_sender(moved.refusal, then);
     show::say(b", sends");
-    show::bytes(sender::send(then, lent));
+    show::say_bytes(sender::send(then, lent));
     then
 }
 
@@ -96,5 +96,5 @@ pub fn tell(i: u32, message: Bytes, answer: Bytes) {
     show::number(b"outcome ", i as u64);
     show::number(b": answered ", outcome::answered(request, answer) as u64);
     show::say(b", data");
-    show::bytes(outcome::read_data(request, answer, 0));
+    show::say_bytes(outcome::read_data(request, answer, 0));
 }

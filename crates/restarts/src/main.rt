@@ -209,7 +209,7 @@ fn say_end(how: u32, memory: [u32; 3]) {
 ; the night is over; memory",
         how as usize,
     );
-    show::words(&memory);
+    show::say_words(&memory);
 }
 
 // The life is over, and the next finds what it left. A reset: the record is fresh, and the other buffers hold

@@ -112,7 +112,7 @@ fn command(request: &[u8], answer: &[u8], k: usize) {
     let span = outcome::read_span(request, answer, k);
     show::number(b", data from ", span.start as u64);
     show::number(b" to ", span.end as u64);
-    show::bytes(outcome::read_data(request, answer, k));
+    show::say_bytes(outcome::read_data(request, answer, k));
 }
 
 // The answer to three reads; the second failed.

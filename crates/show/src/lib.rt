@@ -7,6 +7,54 @@
 ghost use Rattle.std.specs.Prelude.{◌≡◌, ◌==◌, ◌+◌, ◌≤◌, length, take, drop};
 ghost use Rattle.std.specs.List.{position_or_len};
 
+use std::fmt;
+
+// Words in hexadecimal, a space in front of each.
+#[derive(Clone, Copy)]
+pub struct Words<'a>(pub &'a [u32]);
+
+impl fmt::Display for Words<'_> {
+    fn fmt<W: fmt::Write>(&self, f: &mut fmt::Formatter<W>) -> fmt::Result {
+        for w in self.0 {
+            write!(f, " {w:08x}")?;
+        }
+        Ok(())
+    }
+}
+
+// Bytes likewise.
+#[derive(Clone, Copy)]
+pub struct Bytes<'a>(pub &'a [u8]);
+
+impl fmt::Display for Bytes<'_> {
+    fn fmt<W: fmt::Write>(&self, f: &mut fmt::Formatter<W>) -> fmt::Result {
+        for b in self.0 {
+            write!(f, " {b:02x}")?;
+        }
+        Ok(())
+    }
+}
+
+// The words that stand in some bytes, likewise.
+#[derive(Clone, Copy)]
+pub struct WordsIn<'a>(pub &'a [u8]);
+
+impl fmt::Display for WordsIn<'_> {
+    fn fmt<W: fmt::Write>(&self, f: &mut fmt::Formatter<W>) -> fmt::Result {
+        for word in self.0.chunks_exact(4) {
+            write!(f, " {:08x}", word::word_at(word, 0))?;
+        }
+        Ok(())
+    }
+}
+
+// The first n, or all where there are fewer.
+pub fn front<T>(xs: &[T], n: usize) -> &[T]
+    ensures { result.now ≡ take n xs.now }
+{
+    &xs[..n.min(xs.len())]
+}
+
 // The descriptor of standard output.
 const STDOUT: i32 = 1;
 
@@ -45,14 +93,12 @@ fn start_of(text: &[u8], i: usize) -> usize
     ensures { result ≤ length text.now }
 {
     let mut at = 0;
-    let mut k = 0;
-    while k < i {
+    for _ in 0..i {
         let end = end_of(text, at);
         if end == text.len() {
             return end;
         }
         at = end + 1;
-        k += 1;
     }
     at
 }
@@ -64,75 +110,31 @@ pub fn line(text: &[u8], i: usize) {
     say(&text[start..end]);
 }
 
-// A byte in hexadecimal, a space in front.
-fn byte(x: u8) {
-    say(b" ");
-    io::print_hex(STDOUT, x as u64, 2);
-}
-
-// A word, a space in front.
-fn word_of(w: u32) {
-    hex(b" ", w);
-}
-
-// Each byte, a space in front.
-fn each(part: &[u8]) {
-    let mut i = 0;
-    while i < part.len() {
-        byte(part[i]);
-        i += 1;
-    }
-}
-
 // Each word, a space in front.
 pub fn each_word(words: &[u32]) {
-    let mut i = 0;
-    while i < words.len() {
-        word_of(words[i]);
-        i += 1;
+    for w in words {
+        hex(b" ", *w);
     }
 }
 
 // The bytes of a part, to the end of the line.
-pub fn bytes(part: &[u8]) {
-    each(part);
+pub fn say_bytes(part: &[u8]) {
+    for b in part {
+        say(b" ");
+        io::print_hex(STDOUT, *b as u64, 2);
+    }
     say(b"\n");
 }
 
 // Words, to the end of the line.
-pub fn words(words: &[u32]) {
+pub fn say_words(words: &[u32]) {
     each_word(words);
     say(b"\n");
 }
 
 // The first n words of some bytes, or all where there are fewer, a space in front of each.
 pub fn first_words(bytes: &[u8], n: usize) {
-    let mut i = 0;
-    while i < n {
-        if bytes.len() / 4 <= i {
-            return;
-        }
-        word_of(word::word_at(bytes, i));
-        i += 1;
+    for word in bytes.chunks_exact(4).take(n) {
+        hex(b" ", word::word_at(word, 0));
     }
-}
-
-// The first n bytes, or all where there are fewer.
-pub fn front(bytes: &[u8], n: usize) -> &[u8]
-    ensures { result.now ≡ take n bytes.now }
-{
-    if bytes.len() < n {
-        return bytes;
-    }
-    &bytes[..n]
-}
-
-// The same of words.
-pub fn front_words(words: &[u32], n: usize) -> &[u32]
-    ensures { result.now ≡ take n words.now }
-{
-    if words.len() < n {
-        return words;
-    }
-    &words[..n]
 }

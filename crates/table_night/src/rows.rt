@@ -25,7 +25,7 @@ fn say_row(memory: &[u32], r: usize) {
         return;
     }
     show::say(b"   ");
-    show::words(&memory[16 + 8 * r..24 + 8 * r]);
+    show::say_words(&memory[16 + 8 * r..24 + 8 * r]);
 }
 
 // All of them.

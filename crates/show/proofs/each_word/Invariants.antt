@@ -1,9 +1,0 @@
--- `show::each_word` meets its contract: each word lies within the slice, and the turns left fall. Assumes nothing.
-use Rattle.std.proofs.Common.{◌-◌, length}
-use Rattle.show.proofs.each_word.Given as goal
-
-abbrev pub invariant-loop-i : goal.invariant-loop-i
-invariant-loop-i l = Unit {0}
-
-abbrev pub decreases-loop-i : goal.decreases-loop-i
-decreases-loop-i l = length l.words - l.i
