@@ -1,147 +1,147 @@
-// Every refusal 21 to 26: what is tried, and the number that it gets. The tries are counted from 0.
+// Every refusal 21 to 26: what is tried, and the number that it gets.
 use crate::{NOP, READ, WRITE, plain, told, write_at};
 use building::asked::Asked;
 use building::build;
 use building::record::Building;
 use header::limits;
-
-pub(crate) const TRIES: usize = 30;
-
-fn say_label(i: usize) {
-    show::line(
-        b"begin in a byte too few
-begin kind 3
-begin tag 16
-a write that ends within its address
-closed and empty
-kind 3 in a record
-close with nothing added
-close twice
-add after closing
-write no words
-write 4,096 words
-read no words
-read 4,097 words
-NOP of 3 words
-write 1, last enables 1
-write 2, last enables 0
-write 1, first enables 16
-write 2, last enables 16
-gaps at 12
-gaps at 9
-gaps at 2^32 + 12
-gaps at 2^32 + 8
-gaps in 3 words at 8
-write at 2^32
-write at 2^32 - 1
-read at 2^32
-message of the limit
-and of one word more
-all-OK answer of the limit
-and of one word more",
-        i,
-    );
-}
+use std::io;
 
 // Begins in an output of so many bytes.
-fn begins(bytes: usize, kind: u32, tag: u32) {
+fn begins(rt: &impl Print, label: &str, bytes: usize, kind: u32, tag: u32) -> io::Result<()> {
     let out = [0u8; limits::LIMIT_BYTES];
-    told(build::begin(show::front(&out, bytes), kind, tag, false, false));
+    let given = build::begin(show::front(&out, bytes), kind, tag, false, false);
+    told(rt, label, given)?;
+    Ok(())
 }
 
-// Closes a record as a caller may hand it in.
-fn closes(kind: u32, words: usize, last: usize, answer: usize, closed: bool) {
+// A record as a caller may hand it in.
+fn record(kind: u32, words: usize, last: usize, answer: usize, closed: bool) -> Building {
+    Building {
+        kind,
+        tag: 0,
+        wide: false,
+        discovery: false,
+        words,
+        last,
+        answer,
+        closed,
+    }
+}
+
+fn closes(rt: &impl Print, label: &str, b: Building) -> io::Result<()> {
     let mut out = [0u8; limits::LIMIT_BYTES];
-    told(build::close(
-        &mut out,
-        Building {
-            kind,
-            tag: 0,
-            wide: false,
-            discovery: false,
-            words,
-            last,
-            answer,
-            closed,
-        },
-    ));
+    told(rt, label, build::close(&mut out, b))?;
+    Ok(())
 }
 
 // Adds a command with so many data words to a record.
-fn adds(b: Building, asked: Asked, n: usize) {
+fn adds(rt: &impl Print, label: &str, b: Building, asked: Asked, n: usize) -> io::Result<()> {
     let mut out = [0u8; limits::LIMIT_BYTES];
     let words = [0u32; 4096];
-    told(build::add(&mut out, b, asked, show::front(&words, n)));
+    let given = build::add(&mut out, b, asked, show::front(&words, n));
+    told(rt, label, given)?;
+    Ok(())
 }
 
 // The first command of a message.
-fn adds_first(kind: u32, asked: Asked, n: usize) {
-    let out = [0u8; limits::LIMIT_BYTES];
-    let given = build::begin(&out, kind, 0, false, false);
-    adds(given.building, asked, n);
+fn adds_first(rt: &impl Print, label: &str, kind: u32, asked: Asked, n: usize) -> io::Result<()> {
+    adds(rt, label, record(kind, 0, 0, 0, false), asked, n)
 }
 
-fn writes(address: u64, first: u32, last: u32, n: usize) {
-    adds_first(WRITE, write_at(address, first, last), n);
+// A write of so many words.
+fn writes(
+    rt: &impl Print,
+    label: &str,
+    address: u64,
+    first: u32,
+    last: u32,
+    n: usize,
+) -> io::Result<()> {
+    adds_first(rt, label, WRITE, write_at(address, first, last), n)
 }
 
-fn reads(address: u64, count: usize, n: usize) {
-    adds_first(READ, plain(address, count), n);
+// A read of so many words, with n data words beside it.
+fn reads(rt: &impl Print, label: &str, address: u64, count: usize, n: usize) -> io::Result<()> {
+    adds_first(rt, label, READ, plain(address, count), n)
 }
 
-fn adds_after_closing() {
-    adds(
-        Building {
-            kind: WRITE,
-            tag: 0,
-            wide: false,
-            discovery: false,
-            words: 3,
-            last: 0,
-            answer: 1,
-            closed: true,
-        },
-        write_at(0, 15, 0),
-        1,
-    );
+// 21: a short output, a kind, a tag, records that no sequence of calls gives.
+fn twenty_one(rt: &impl Print) -> io::Result<()> {
+    begins(
+        rt,
+        "begin in a byte too few",
+        limits::LIMIT_BYTES - 1,
+        NOP,
+        0,
+    )?;
+    begins(rt, "begin kind 3", limits::LIMIT_BYTES, 3, 0)?;
+    begins(rt, "begin tag 16", limits::LIMIT_BYTES, NOP, 16)?;
+    closes(
+        rt,
+        "a write that ends within its address",
+        record(WRITE, 4, 2, 2, false),
+    )?;
+    closes(rt, "closed and empty", record(NOP, 0, 0, 0, true))?;
+    closes(rt, "kind 3 in a record", record(3, 0, 0, 0, false))
 }
 
-// Try i. 21: a short output, a kind, a tag, records that no sequence of calls gives. 22: closing with nothing added,
-// closing twice, adding after closing. 23: counts. 24: enables, and gaps, which two words at a multiple of 8
-// alone may have, judged before 25. 25: addresses of 2^32, and one less. 26: a message and an all-OK answer of the
-// limit, and of one word more.
-pub(crate) fn tried(i: usize) {
-    say_label(i);
-    match i {
-        0 => begins(limits::LIMIT_BYTES - 1, NOP, 0),
-        1 => begins(limits::LIMIT_BYTES, 3, 0),
-        2 => begins(limits::LIMIT_BYTES, NOP, 16),
-        3 => closes(WRITE, 4, 2, 2, false),
-        4 => closes(NOP, 0, 0, 0, true),
-        5 => closes(3, 0, 0, 0, false),
-        6 => closes(WRITE, 0, 0, 0, false),
-        7 => closes(WRITE, 3, 0, 1, true),
-        8 => adds_after_closing(),
-        9 => writes(0, 15, 0, 0),
-        10 => writes(0, 15, 15, 4096),
-        11 => reads(0, 0, 1),
-        12 => reads(0, 4097, 1),
-        13 => adds_first(NOP, plain(0, 1), 3),
-        14 => writes(0, 15, 1, 1),
-        15 => writes(0, 15, 0, 2),
-        16 => writes(0, 16, 0, 1),
-        17 => writes(0, 15, 16, 2),
-        18 => writes(12, 0x5, 0xA, 2),
-        19 => writes(9, 0x5, 0xA, 2),
-        20 => writes(4294967308, 0x5, 0xA, 2),
-        21 => writes(4294967304, 0x5, 0xA, 2),
-        22 => writes(8, 0x5, 0xA, 3),
-        23 => writes(4294967296, 15, 0, 1),
-        24 => writes(4294967295, 15, 0, 1),
-        25 => reads(4294967296, 1, 0),
-        26 => writes(0, 15, 15, limits::LIMIT - 2),
-        27 => writes(0, 15, 15, limits::LIMIT - 1),
-        28 => reads(0, limits::LIMIT - 1, 0),
-        _ => reads(0, limits::LIMIT, 0),
-    }
+// 22: closing with nothing added, closing twice, adding after closing.
+fn twenty_two(rt: &impl Print) -> io::Result<()> {
+    closes(
+        rt,
+        "close with nothing added",
+        record(WRITE, 0, 0, 0, false),
+    )?;
+    let closed = record(WRITE, 3, 0, 1, true);
+    closes(rt, "close twice", closed)?;
+    adds(rt, "add after closing", closed, write_at(0, 15, 0), 1)
+}
+
+// 23: counts.
+fn twenty_three(rt: &impl Print) -> io::Result<()> {
+    writes(rt, "write no words", 0, 15, 0, 0)?;
+    writes(rt, "write 4,096 words", 0, 15, 15, 4096)?;
+    reads(rt, "read no words", 0, 0, 1)?;
+    reads(rt, "read 4,097 words", 0, 4097, 1)?;
+    adds_first(rt, "NOP of 3 words", NOP, plain(0, 1), 3)
+}
+
+// 24: enables, and gaps, which two words at a multiple of 8 alone may have, judged before 25.
+fn twenty_four(rt: &impl Print) -> io::Result<()> {
+    writes(rt, "write 1, last enables 1", 0, 15, 1, 1)?;
+    writes(rt, "write 2, last enables 0", 0, 15, 0, 2)?;
+    writes(rt, "write 1, first enables 16", 0, 16, 0, 1)?;
+    writes(rt, "write 2, last enables 16", 0, 15, 16, 2)?;
+    writes(rt, "gaps at 12", 12, 0x5, 0xA, 2)?;
+    writes(rt, "gaps at 9", 9, 0x5, 0xA, 2)?;
+    writes(rt, "gaps at 2^32 + 12", TOO_FAR + 12, 0x5, 0xA, 2)?;
+    writes(rt, "gaps at 2^32 + 8", TOO_FAR + 8, 0x5, 0xA, 2)?;
+    writes(rt, "gaps in 3 words at 8", 8, 0x5, 0xA, 3)
+}
+
+// 2^32.
+const TOO_FAR: u64 = 4_294_967_296;
+
+// 25: addresses of 2^32, and one less.
+fn twenty_five(rt: &impl Print) -> io::Result<()> {
+    writes(rt, "write at 2^32", TOO_FAR, 15, 0, 1)?;
+    writes(rt, "write at 2^32 - 1", TOO_FAR - 1, 15, 0, 1)?;
+    reads(rt, "read at 2^32", TOO_FAR, 1, 0)
+}
+
+// 26: a message and an all-OK answer of the limit, and of one word more.
+fn twenty_six(rt: &impl Print) -> io::Result<()> {
+    writes(rt, "message of the limit", 0, 15, 15, limits::LIMIT - 2)?;
+    writes(rt, "and of one word more", 0, 15, 15, limits::LIMIT - 1)?;
+    reads(rt, "all-OK answer of the limit", 0, limits::LIMIT - 1, 0)?;
+    reads(rt, "and of one word more", 0, limits::LIMIT, 0)
+}
+
+pub(crate) fn tries(rt: &impl Print) -> io::Result<()> {
+    twenty_one(rt)?;
+    twenty_two(rt)?;
+    twenty_three(rt)?;
+    twenty_four(rt)?;
+    twenty_five(rt)?;
+    twenty_six(rt)
 }

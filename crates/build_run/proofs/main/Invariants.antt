@@ -1,9 +1,0 @@
--- `build_run::main` meets its contract: the turns left fall. Assumes nothing.
-use Rattle.std.proofs.Common.{◌-◌}
-use Rattle.build_run.proofs.main.Given as goal
-
-abbrev pub invariant-loop-i : goal.invariant-loop-i
-invariant-loop-i l = Unit {0}
-
-abbrev pub decreases-loop-i : goal.decreases-loop-i
-decreases-loop-i l = 36 - l.i
