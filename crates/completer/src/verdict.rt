@@ -9,7 +9,6 @@ ghost use Rattle.completer.specs.Verdict.{lent_ok, judged, as_kept, held_to, ver
 
 use header::refusal::Refusal;
 use message::walk;
-use message::walk::Walked;
 use tags::record::TagRecord;
 use tags::rule::Verdict;
 use tags::{record, rule};
@@ -47,10 +46,9 @@ fn judge(tags: TagRecord, datagram: &[u8]) -> Verdict
     requires { record_ok tags ≡ true }
     ensures { result ≡ judged tags (read datagram.now) }
 {
-    let walked = walk::walk(datagram);
-    match walked {
-        Walked::Refused(refusal) => Verdict::Refused(refusal),
-        Walked::WellFormed(byte0) => rule::rule(tags, byte0),
+    match walk::walk(datagram) {
+        Ok(byte0) => rule::rule(tags, byte0),
+        Err(refusal) => Verdict::Refused(refusal),
     }
 }
 

@@ -45,6 +45,7 @@ in-header =
       ends-ok = λ M 𝓤 𝓛 mem run κs a g one other. one_of 𝓤;
       length-ok = λ M 𝓤 𝓛 mem run κs a g one other. one_of 𝓤;
       of = λ M 𝓤 𝓛 mem run κs a g one other. one_of 𝓤;
+      check = λ M 𝓤 𝓛 mem run κs a g one other. one_of 𝓤;
     }
 
 pub in-message : InMessage

@@ -37,6 +37,7 @@ use Rattle.header.specs.contracts.head_of as HeadOf
 use Rattle.header.specs.contracts.ends_ok as EndsOk
 use Rattle.header.specs.contracts.limits.length_ok as LengthOk
 use Rattle.header.specs.contracts.refusal.Refusal.of as OfHeader
+use Rattle.header.specs.contracts.refusal.check as Check
 use Rattle.message.specs.contracts.address.address_at as AddressAt
 use Rattle.message.specs.contracts.address.put_address as PutAddress
 use Rattle.message.specs.contracts.discovery.bytes as BytesOf
@@ -104,6 +105,7 @@ pub record InHeader : Type 2 where
   pub ends-ok : Determined EndsOk.ended (λ M 𝓤. EndsOk.clauses) (λ κs r e. r)
   pub length-ok : Determined LengthOk.ended (λ M 𝓤. LengthOk.clauses) (λ κs r e. r)
   pub of : Determined OfHeader.ended (λ M 𝓤. OfHeader.clauses) (λ κs r e. r)
+  pub check : Determined Check.ended (λ M 𝓤. Check.clauses) (λ κs r e. r)
 
 -- `message`
 pub record InMessage : Type 2 where

@@ -1,7 +1,7 @@
 // A refusal: its number in document 01's tables, and the index, from 0, of the header word that was looked at. Refusals
 // 3 to 9, 31 and 33 to 35 have such a word; all others have index 0.
-ghost use Rattle.std.specs.Prelude.{◌≡◌};
-ghost use Rattle.header.specs.Refusal.{refusal};
+ghost use Rattle.std.specs.Prelude.{◌≡◌, cond, Ok, Err};
+ghost use Rattle.header.specs.Refusal.{refused_at, refusal};
 
 #[repr(C)]
 #[derive(Clone, Copy)]
@@ -96,4 +96,14 @@ impl Refusal {
     {
         Refusal { number, at: 0 }
     }
+}
+
+// Whether all is well, or the refusal of this number at this word.
+pub fn check(ok: bool, number: u32, at: u32) -> Result<(), Refusal>
+    ensures { result ≡ cond ok (Ok tt) (Err (refused_at number at)) }
+{
+    if ok {
+        return Ok(());
+    }
+    Err(Refusal { number, at })
 }

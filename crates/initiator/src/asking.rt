@@ -8,7 +8,6 @@ ghost use Rattle.initiator.specs.Asking.{plainly, asked_as, asking_of, refusal_o
 
 use header::refusal::Refusal;
 use message::walk;
-use message::walk::Walked;
 
 // A request that may be asked, by byte 0 of its headers, or the refusal.
 #[derive(Drop)]
@@ -41,13 +40,12 @@ fn plain(byte0: u32) -> Asking
 pub fn ask(request: &[u8]) -> Asking
     ensures { result ≡ asking_of (plainly (read request.now)) }
 {
-    let walked = walk::walk(request);
-    match walked {
-        Walked::Refused(refusal) => Asking::Refused(Refusal {
+    match walk::walk(request) {
+        Ok(byte0) => plain(byte0),
+        Err(refusal) => Asking::Refused(Refusal {
             number: Refusal::REQUEST,
             at: refusal.at,
         }),
-        Walked::WellFormed(byte0) => plain(byte0),
     }
 }
 

@@ -14,7 +14,6 @@ use building::build::Built;
 use building::record::Building;
 use header::refusal::Refusal;
 use message::walk;
-use message::walk::Walked;
 
 // The refusal, 2 to 10, of a request by any controller, at the header that is refused; number 0 where it is
 // well-formed.
@@ -22,8 +21,8 @@ pub fn charkhavo_refusal(request: &[u8]) -> Refusal
     ensures { result ≡ refusal_in (read request.now) }
 {
     match walk::walk(request) {
-        Walked::WellFormed(_) => Refusal::of(Refusal::NONE),
-        Walked::Refused(refusal) => refusal,
+        Ok(_) => Refusal::of(Refusal::NONE),
+        Err(refusal) => refusal,
     }
 }
 

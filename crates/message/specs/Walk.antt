@@ -1,25 +1,22 @@
 -- What any bytes mean, or their refusal: one step of the walk, the walk, and what the function `walk` tells of it.
 -- "Then the commands are walked, at each header 3 (no word there), 4 to 8, 3 (body past the end), 9. Then 10". Assumes
 -- nothing.
-use Rattle.std.specs.Prelude.{ℕ, zero, suc, ◌+◌, ◌-◌, cond, List, [], ◌∷◌, length, get_or, take, drop, ltb, leb, eqb}
+use Rattle.std.specs.Prelude.{ℕ, zero, suc, ◌+◌, ◌-◌, cond, List, [], ◌∷◌, length, get_or, take, drop, ltb, leb, eqb, Result, Ok, Err}
 use Rattle.word.specs.Words.{words_of}
 use Rattle.header.specs.declared.refusal.Refusal.{Refusal}
 use Rattle.header.specs.Limits.{limit, length_ok}
 use Rattle.header.specs.Header.{kind_of, byte1_of, count_of, address_words, data_words, head_of}
 use Rattle.header.specs.Refusal.{refused_at, refusal}
-use Rattle.message.specs.declared.walk.Step.{Step}
-use Rattle.message.specs.declared.walk.Step.TheVariants.{Read, Refused as RefusedStep}
-use Rattle.message.specs.declared.walk.Walked.{Walked}
-use Rattle.message.specs.declared.walk.Walked.TheVariants.{WellFormed, Refused as RefusedWalk}
+use Rattle.header.specs.declared.Head.{Head}
 use Rattle.message.specs.Faults.{fault_of}
 use Rattle.message.specs.Request.{Command, Request, Reading, before, replies, Refused, Means}
 use Rattle.message.specs.Address.{address_from}
 
 -- the header at word `at` as it was read, or its refusal
-unfoldable pub step_on : ℕ → ℕ → ℕ → ℕ → ℕ → Step
+unfoldable pub step_on : ℕ → ℕ → ℕ → ℕ → ℕ → Result Head Refusal
 step_on byte0 at h left address =
-    cond (eqb (fault_of byte0 h left address) 0) (Read (head_of byte0 h))
-    (RefusedStep (refused_at (fault_of byte0 h left address) at))
+    cond (eqb (fault_of byte0 h left address) 0) (Ok (head_of byte0 h))
+    (Err (refused_at (fault_of byte0 h left address) at))
 
 -- the command of the header h and the words that follow it
 unfoldable pub command_of : ℕ → ℕ → List ℕ → Command
@@ -32,9 +29,9 @@ command_of byte0 h rest =
     }
 
 -- what a step comes to: c is the command read, and `go n` what follows behind n words
-abbrev pub turn : Step → Command → (ℕ → Reading (List Command)) → Reading (List Command)
-turn (RefusedStep r) c go = Refused r
-turn (Read d) c go = cond d.last (Means (c ∷ [])) (before c (go d.body))
+abbrev pub turn : Result Head Refusal → Command → (ℕ → Reading (List Command)) → Reading (List Command)
+turn (Err r) c go = Refused r
+turn (Ok d) c go = cond d.last (Means (c ∷ [])) (before c (go d.body))
 
 -- "Then the commands are walked": the commands in the words ws, the next header, word `at` of the message, standing
 -- behind `skip` of them; "3 (no word there)" at the place where it should stand
@@ -65,30 +62,17 @@ unfoldable pub request_of : List ℕ → Request
 request_of dg = request_in (read dg)
 
 -- its step at word `at` of the words ws; "3 (no word there)"
-unfoldable pub step_at : ℕ → List ℕ → ℕ → Step
+unfoldable pub step_at : ℕ → List ℕ → ℕ → Result Head Refusal
 step_at byte0 ws at =
     cond (ltb at (length ws))
     (step_on byte0 at (get_or ws at 0) (length ws - at - 1) (address_from (address_words byte0) (drop (at + 1) ws)))
-    (RefusedStep (refused_at 3 at))
-
--- the refusal of a step that refused; none is 0
-abbrev pub refusal_of : Step → Refusal
-refusal_of (Read d) = refusal 0
-refusal_of (RefusedStep r) = r
+    (Err (refused_at 3 at))
 
 -- what the walk tells at the end of its commands, whose all-OK answer has so many words: 10, or byte 0
-unfoldable pub end_of : ℕ → ℕ → Walked
-end_of byte0 answer = cond (leb answer limit) (WellFormed byte0) (RefusedWalk (refusal 10))
+unfoldable pub end_of : ℕ → ℕ → Result ℕ Refusal
+end_of byte0 answer = cond (leb answer limit) (Ok byte0) (Err (refusal 10))
 
 -- and of commands that follow others whose answers have so many words
-unfoldable pub finish : ℕ → ℕ → Reading (List Command) → Walked
-finish byte0 answer (Refused r) = RefusedWalk r
+unfoldable pub finish : ℕ → ℕ → Reading (List Command) → Result ℕ Refusal
+finish byte0 answer (Refused r) = Err r
 finish byte0 answer (Means cs) = end_of byte0 (answer + replies byte0 cs)
-
--- what the walk tells of a datagram: the refusal, or byte 0
-abbrev pub walked : Reading Request → Walked
-walked (Refused r) = RefusedWalk r
-walked (Means r) = WellFormed r.byte0
-
-unfoldable pub walk_of : List ℕ → Walked
-walk_of dg = walked (read dg)

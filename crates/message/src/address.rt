@@ -10,13 +10,12 @@ pub fn address_at(byte0: u32, datagram: &[u8], at: usize) -> u64
     requires { 4 * (at + 1 + address_words byte0) ≤ length datagram.now }
     ensures { result ≡ address_from (address_words byte0) (drop (at + 1) (words_of datagram.now)) }
 {
-    let words = header::address_words(byte0);
-    match words {
+    match header::address_words(byte0) {
         0 => 0,
-        1 => word::word_at(datagram, at + 1) as u64,
+        1 => u64::from(word::word_at(datagram, at + 1)),
         _ => {
-            let low = word::word_at(datagram, at + 1) as u64;
-            low + 4294967296 * word::word_at(datagram, at + 2) as u64
+            let low = u64::from(word::word_at(datagram, at + 1));
+            low + 4294967296 * u64::from(word::word_at(datagram, at + 2))
         },
     }
 }
@@ -28,13 +27,12 @@ pub fn put_address(out: &mut [u8], at: usize, n: usize, address: u64)
         × (4 * (at + n) ≤ length out.old) }
     ensures { out.new ≡ put_words out.old at (address_in n address) }
 {
-    if n == 0 {
-        return;
+    match n {
+        0 => {},
+        1 => word::put_word(out, at, address as u32),
+        _ => {
+            word::put_word(out, at, (address % 4294967296) as u32);
+            word::put_word(out, at + 1, (address / 4294967296) as u32);
+        },
     }
-    if n == 1 {
-        word::put_word(out, at, address as u32);
-        return;
-    }
-    word::put_word(out, at, (address % 4294967296) as u32);
-    word::put_word(out, at + 1, (address / 4294967296) as u32);
 }

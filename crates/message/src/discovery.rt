@@ -8,19 +8,6 @@ use header::limits;
 pub fn bytes() -> [u8; 12]
     ensures { result ≡ discovery_bytes }
 {
-    let most = limits::LIMIT_BYTES;
-    [
-        128,
-        0,
-        2,
-        128,
-        (most % 256) as u8,
-        (most / 256 % 256) as u8,
-        (most / 65536 % 256) as u8,
-        (most / 16777216 % 256) as u8,
-        0,
-        0,
-        0,
-        0,
-    ]
+    let [a, b, c, d] = (limits::LIMIT_BYTES as u32).to_le_bytes();
+    [0x80, 0, 2, 0x80, a, b, c, d, 0, 0, 0, 0]
 }

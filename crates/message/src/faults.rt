@@ -1,5 +1,6 @@
 // What can be wrong with a header, 3 to 9: each check, and the first that fails.
 ghost use Rattle.std.specs.Prelude.{◌≡◌, ◌+◌, ◌*◌, ◌≤◌, length, drop};
+ghost use Rattle.header.specs.Refusal.{refused_at, as_result};
 ghost use Rattle.word.specs.Words.{words_of};
 ghost use Rattle.message.specs.Faults.{asks, count_ok, zeros_ok, gaps_ok, first_field_ok, last_field_ok, gapless};
 ghost use Rattle.message.specs.Faults.{pattern_ok, enables_ok, fault_of};
@@ -7,19 +8,13 @@ ghost use Rattle.header.specs.Header.{ends_ok, kind_of, count_of, byte1_of, last
 ghost use Rattle.message.specs.Address.{address_from};
 
 use header::Kind;
-use header::refusal::Refusal;
+use header::refusal::{Refusal, check};
 
 // Whether byte 0 is a request's.
 fn asks_by(byte0: u32) -> bool
     ensures { result ≡ asks (kind_of byte0) }
 {
-    let kind = header::kind_of(byte0);
-    match kind {
-        Kind::Nop => true,
-        Kind::Write => true,
-        Kind::Read => true,
-        Kind::Response => false,
-    }
+    !matches!(header::kind_of(byte0), Kind::Response)
 }
 
 // Whether a command of this kind may have this count.
@@ -28,8 +23,7 @@ pub fn count_ok(kind: Kind, count: usize) -> bool
 {
     match kind {
         Kind::Nop => count <= 2,
-        Kind::Write => 1 <= count,
-        Kind::Read => 1 <= count,
+        Kind::Write | Kind::Read => 1 <= count,
         Kind::Response => false,
     }
 }
@@ -38,12 +32,10 @@ pub fn count_ok(kind: Kind, count: usize) -> bool
 fn zeros_ok(count: usize, first: u32, last: u32) -> bool
     ensures { result ≡ zeros_ok count first last }
 {
-    match count {
-        1 => last == 0,
-        _ => match first {
-            0 => false,
-            1.. => last != 0,
-        },
+    if count == 1 {
+        last == 0
+    } else {
+        first != 0 && last != 0
     }
 }
 
@@ -51,61 +43,40 @@ fn zeros_ok(count: usize, first: u32, last: u32) -> bool
 fn gaps_ok(count: usize, address: u64) -> bool
     ensures { result ≡ gaps_ok count address }
 {
-    match count {
-        0 => false,
-        1 => true,
-        2 => address % 8 == 0,
-        3.. => false,
-    }
+    count == 1 || count == 2 && address % 8 == 0
 }
 
 // Whether a first field goes up to its word's end without a gap.
 fn first_field_ok(first: u32) -> bool
     ensures { result ≡ first_field_ok first }
 {
-    match first {
-        0x8 => true,
-        0xC => true,
-        0xE..=0xF => true,
-        _ => false,
-    }
+    matches!(first, 0xF | 0xE | 0xC | 0x8)
 }
 
 // Whether a last field goes on from its word's start without a gap.
 fn last_field_ok(last: u32) -> bool
     ensures { result ≡ last_field_ok last }
 {
-    match last {
-        0x1 => true,
-        0x3 => true,
-        0x7 => true,
-        0xF => true,
-        _ => false,
-    }
+    matches!(last, 0xF | 0x7 | 0x3 | 0x1)
 }
 
 // Whether neither field has a gap.
 fn gapless(first: u32, last: u32) -> bool
     ensures { result ≡ gapless first last }
 {
-    if !first_field_ok(first) {
-        return false;
-    }
-    last_field_ok(last)
+    first_field_ok(first) && last_field_ok(last)
 }
 
 // Whether a write of this count at this address may have these enables for its first and its last word. That neither
 // has a gap is asked first: most have none, both are then nonzero, and the address does not matter.
+#[tactic(auto, using(crate::proofs::Laws::Faults::gapless_pattern), unfolding(crate::specs::Faults::pattern_ok))]
 pub fn pattern_ok(count: usize, address: u64, first: u32, last: u32) -> bool
     ensures { result ≡ pattern_ok count address first last }
 {
     if gapless(first, last) {
         return count != 1;
     }
-    if !zeros_ok(count, first, last) {
-        return false;
-    }
-    gaps_ok(count, address)
+    zeros_ok(count, first, last) && gaps_ok(count, address)
 }
 
 // The same of a header: whether its kind may have its count.
@@ -122,16 +93,13 @@ fn enables_fit(byte0: u32, h: u32, datagram: &[u8], at: usize) -> bool
     ensures { result ≡ enables_ok (kind_of byte0) (count_of h)
         (address_from (address_words byte0) (drop (at + 1) (words_of datagram.now))) (byte1_of h) }
 {
-    let kind = header::kind_of(byte0);
-    match kind {
-        Kind::Nop => true,
+    match header::kind_of(byte0) {
         Kind::Write => {
             let byte1 = header::byte1(h);
-            let low = word::word_at(datagram, at + 1) as u64;
+            let low = u64::from(word::word_at(datagram, at + 1));
             pattern_ok(header::count(h), low, byte1 % 16, byte1 / 16)
         },
-        Kind::Read => true,
-        Kind::Response => true,
+        Kind::Nop | Kind::Read | Kind::Response => true,
     }
 }
 
@@ -142,36 +110,30 @@ fn ends_fit(byte0: u32, h: u32, left: usize) -> bool
     header::ends_ok(header::last(h), header::body_words(byte0, h), left)
 }
 
-// The first fault of the header h, at word `at` of a datagram with `left` words after it, in the document's order, or
-// 0.
-pub(crate) fn fault(byte0: u32, h: u32, left: usize, datagram: &[u8], at: usize) -> u32
+// The refusal of the header h, at word `at` of a datagram with `left` words after it, by its first fault in the
+// document's order.
+#[tactic(auto, unfolding(crate::specs::Faults::fault_of))]
+pub(crate) fn fault(
+    byte0: u32,
+    h: u32,
+    left: usize,
+    datagram: &[u8],
+    at: u32,
+) -> Result<(), Refusal>
     requires { 4 * (at + 1 + left) ≤ length datagram.now }
-    ensures { result ≡ fault_of byte0 h left
-        (address_from (address_words byte0) (drop (at + 1) (words_of datagram.now))) }
+    ensures { result ≡ as_result (refused_at (fault_of byte0 h left
+        (address_from (address_words byte0) (drop (at + 1) (words_of datagram.now)))) at) }
 {
-    if h % 256 != byte0 {
-        return Refusal::BYTE_0;
-    }
-    if !asks_by(byte0) {
-        return Refusal::KIND;
-    }
-    if header::reserved(h) != 0 {
-        return Refusal::RESERVED;
-    }
-    if !count_fits(byte0, h) {
-        return Refusal::COUNT;
-    }
-    if left < header::address_words(byte0) {
-        return Refusal::PAST_END;
-    }
-    if !enables_fit(byte0, h, datagram, at) {
-        return Refusal::ENABLES;
-    }
-    if left < header::body_words(byte0, h) {
-        return Refusal::PAST_END;
-    }
-    if !ends_fit(byte0, h, left) {
-        return Refusal::AFTER_LAST;
-    }
-    0
+    check(h % 256 == byte0, Refusal::BYTE_0, at)?;
+    check(asks_by(byte0), Refusal::KIND, at)?;
+    check(header::reserved(h) == 0, Refusal::RESERVED, at)?;
+    check(count_fits(byte0, h), Refusal::COUNT, at)?;
+    check(header::address_words(byte0) <= left, Refusal::PAST_END, at)?;
+    check(
+        enables_fit(byte0, h, datagram, at as usize),
+        Refusal::ENABLES,
+        at,
+    )?;
+    check(header::body_words(byte0, h) <= left, Refusal::PAST_END, at)?;
+    check(ends_fit(byte0, h, left), Refusal::AFTER_LAST, at)
 }

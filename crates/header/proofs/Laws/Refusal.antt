@@ -1,13 +1,13 @@
 -- Refusals and chains of checks, passed one by one. The laws of requests and answers cite these. Assumes nothing.
 use Prim.Native.Nat.{ℕ, ◌+◌, ◌<◌, ◌≤◌}
 use mathlib.Core.Path.{◌≡◌, refl, ap, subst}
-use mathlib.Core.Bool.{Bool, true, false}
+use mathlib.Core.Bool.{Bool, true, false, cond}
 use native.Mathlib.Nat.{add-zero}
 use native.Mathlib.Omega.{arith}
 use Rattle.header.specs.declared.refusal.Refusal.{Refusal}
 use lib.Dec.{eqb}
 use borrow.Author.Tests.{eqb-true, eqb-false}
-use Rattle.std.proofs.Common.{cond, Ok, Err}
+use Rattle.std.specs.Prelude.{Result, Ok, Err, ⊤}
 use Rattle.header.specs.Refusal.{refused_at, unless, result_of}
 
 -- a check that found no fault
@@ -64,3 +64,12 @@ err_of {A} {e} r a h = go (eqb r.number 0) refl h
     go : (t : Bool) → eqb r.number 0 ≡ t → Err e ≡ cond t (Ok a) (Err r) → (e ≡ r) × (r.number ≡ 0 → ⊥)
     go true z h = absurd (cc)
     go false z h = (cc, eqb-false _ _ z)
+
+-- what a check let by or refused
+pub check-passed : (ok : Bool) (r : Refusal) {u : ⊤} → ◌≡◌ {A = Result ⊤ Refusal} (Ok u) (cond ok (Ok tt) (Err r)) → ok ≡ true
+check-passed true r e = refl
+check-passed false r e = cc
+
+pub check-failed : (ok : Bool) (r : Refusal) {q : Refusal} → ◌≡◌ {A = Result ⊤ Refusal} (Err q) (cond ok (Ok tt) (Err r)) → ok ≡ false
+check-failed true r e = cc
+check-failed false r e = refl

@@ -17,7 +17,7 @@ use Rattle.header.specs.Header.{kind_of, byte1_of, count_of, last_of, header_fro
 use Rattle.header.specs.Refusal.{refused_at}
 use Rattle.header.proofs.Laws.Header.{header_is, address-le}
 use Rattle.header.proofs.Laws.Limits.{right}
-use Rattle.message.specs.declared.walk.Step.TheVariants.{Read, Refused as RefusedStep}
+use Rattle.std.specs.Prelude.{Ok, Err}
 use Rattle.message.specs.Faults.{asks}
 use Rattle.message.specs.Walk.{step_on, command_of, turn, commands_from, ended, read, request_of}
 use Rattle.message.specs.Request.{Command, Request, Reading, Refused, Means, before, replies, command_words, none, request_words, written, FitsCommand, All}
@@ -100,7 +100,7 @@ commands-backed byte0 at zero (h ∷ rest) cs e m = go (λ n ds x. commands-back
 
     go : ((n : ℕ) (ds : List Command) → commands_from byte0 (at + 1 + n) n rest ≡ Means ds → Backed byte0 (drop n rest) ds)
         → (b : Bool) → eqb (fault_before byte0 h rest) 0 ≡ b
-        → turn (cond b (Read (head_of byte0 h)) (RefusedStep (refused_at (fault_before byte0 h rest) at))) (command_of byte0 h rest) (λ n. commands_from byte0 (at + 1 + n) n rest) ≡ Means cs
+        → turn (cond b (Ok (head_of byte0 h)) (Err (refused_at (fault_before byte0 h rest) at))) (command_of byte0 h rest) (λ n. commands_from byte0 (at + 1 + n) n rest) ≡ Means cs
         → Backed byte0 (h ∷ rest) cs
     go ih false z x = no-mean x
     go ih true z x = by (sound byte0 h (length rest) _ (eqb-true _ _ z)) ih (last_of h) refl x

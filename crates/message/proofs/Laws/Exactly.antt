@@ -20,7 +20,7 @@ use Rattle.header.specs.Header.{kind_of, byte0_of, byte1_of, count_of, reserved_
 use Rattle.header.specs.Refusal.{refused_at, refusal}
 use Rattle.header.proofs.Laws.Refusal.{Between, unless-between, Further, further-here, further-on, further-at, number_is, at-is}
 use Rattle.header.proofs.Laws.Limits.{right}
-use Rattle.message.specs.declared.walk.Step.TheVariants.{Read, Refused as RefusedStep}
+use Rattle.std.specs.Prelude.{Ok, Err}
 use Rattle.message.specs.Faults.{asks, count_ok, enables_ok, fault_of}
 use Rattle.message.specs.Walk.{step_on, command_of, turn, commands_from, ended, read}
 use Rattle.message.specs.Request.{Command, Request, Reading, Refused, Means, before, replies, command_words, written, FitsCommand, All}
@@ -91,7 +91,7 @@ after-walk byte0 at zero (h ∷ rest) r e m = go (λ n x. after-walk byte0 (at +
 
     go : ((n : ℕ) → commands_from byte0 (at + 1 + n) n rest ≡ Refused r → Fault byte0 (at + 1 + n) r (drop n rest))
         → (b : Bool) → eqb (fault_before byte0 h rest) 0 ≡ b
-        → turn (cond b (Read (head_of byte0 h)) (RefusedStep (refused_at (fault_before byte0 h rest) at))) (command_of byte0 h rest) (λ n. commands_from byte0 (at + 1 + n) n rest) ≡ Refused r
+        → turn (cond b (Ok (head_of byte0 h)) (Err (refused_at (fault_before byte0 h rest) at))) (command_of byte0 h rest) (λ n. commands_from byte0 (at + 1 + n) n rest) ≡ Refused r
         → Fault byte0 at r (h ∷ rest)
     go ih false z x = here z (same-refusal x)
     go ih true z x = by (sound byte0 h (length rest) _ (eqb-true _ _ z)) ih (last_of h) refl x

@@ -16,7 +16,7 @@ use Rattle.header.specs.Header.{kind_of, wide_of, byte0_of, byte1_of, first_fiel
 use Rattle.header.specs.Header.{address_words, data_words, body_words, head_of, ends_ok}
 use Rattle.header.specs.Refusal.{refused_at}
 use Rattle.header.proofs.Laws.Refusal.{passed}
-use Rattle.message.specs.declared.walk.Step.TheVariants.{Read, Refused as RefusedStep}
+use Rattle.std.specs.Prelude.{Ok, Err}
 use Rattle.message.specs.Faults.{asks, is_write, count_ok, gaps_ok, first_field_ok, last_field_ok, gapless, pattern_ok, enables_ok, fault_of}
 use Rattle.message.specs.Walk.{step_on, commands_from}
 use Rattle.message.specs.Request.{Reading, Refused, Means, before}
@@ -116,12 +116,12 @@ read-faultless byte0 h left kind same bits some ends address =
     })
 
 -- a step by its header's fault
-pub step-read : (byte0 at h left address : ℕ) → fault_of byte0 h left address ≡ 0 → step_on byte0 at h left address ≡ Read (head_of byte0 h)
+pub step-read : (byte0 at h left address : ℕ) → fault_of byte0 h left address ≡ 0 → step_on byte0 at h left address ≡ Ok (head_of byte0 h)
 unfolding step_on
 step-read byte0 at h left address e = rw (eq-eqb _ _ e)
 
 pub step-refused : (byte0 at h left address : ℕ) → (fault_of byte0 h left address ≡ 0 → ⊥)
-    → step_on byte0 at h left address ≡ RefusedStep (refused_at (fault_of byte0 h left address) at)
+    → step_on byte0 at h left address ≡ Err (refused_at (fault_of byte0 h left address) at)
 unfolding step_on
 step-refused byte0 at h left address e = rw (ne_eqb _ _ e)
 
@@ -144,9 +144,9 @@ first-field-high n h k = go (eqb n 15) refl
 passes-some : (ok : ℕ → Bool) → ok 0 ≡ false → (n : ℕ) → ok n ≡ true → eqb n 0 ≡ false
 passes-some ok z n e = ne_eqb n 0 (λ q. false≢true (sym z ∙ ap ok (sym q) ∙ e))
 
-pub gapless-pattern : (count address first last : ℕ) → gapless first last ≡ true → not (eqb count 1) ≡ pattern_ok count address first last
+pub gapless_pattern : (count address first last : ℕ) → gapless first last ≡ true → not (eqb count 1) ≡ pattern_ok count address first last
 unfolding pattern_ok
-gapless-pattern count address first last e =
+gapless_pattern count address first last e =
     let f = (and-eq-true_iff (first_field_ok first) (last_field_ok last)).0 e in
     rw (e, passes-some first_field_ok refl first f.0, passes-some last_field_ok refl last f.1, or-true (gaps_ok count address)) (go (eqb count 1))
   where

@@ -19,20 +19,18 @@ use Rattle.header.specs.Header.{kind_of, count_of, address_words, body_words, re
 use Rattle.header.specs.Refusal.{refused_at, refusal}
 use Rattle.header.proofs.Laws.Header.{reply-le}
 use Rattle.header.proofs.Laws.Limits.{Right, right}
-use Rattle.message.specs.declared.walk.Step.{Step}
-use Rattle.message.specs.declared.walk.Step.TheVariants.{Read, Refused as RefusedStep}
-use Rattle.message.specs.declared.walk.Walked.TheVariants.{WellFormed, Refused as RefusedWalk}
+use Rattle.std.specs.Prelude.{Ok, Err, Result}
 use Rattle.message.specs.Faults.{asks, is_write, fault_of}
-use Rattle.message.specs.Walk.{step_on, command_of, turn, commands_from, step_at, ended, end_of, finish, walked, read, walk_of}
-use Rattle.message.specs.Request.{Command, Request, Reading, Refused, Means, before, replies}
+use Rattle.message.specs.Walk.{step_on, command_of, turn, commands_from, step_at, ended, end_of, finish, read}
+use Rattle.message.specs.Request.{Command, Request, Reading, Refused, Means, before, replies, given}
 use Rattle.message.specs.Address.{address_from}
 use Rattle.message.proofs.Laws.Faults.{sound, skipped, past}
 use Rattle.message.proofs.Laws.Back.{ended_is}
 
 -- a step whose words behind it read the same
-turn-same : (s : Step) (c : Command) (f g : ℕ → Reading (List Command)) → ((n : ℕ) → f n ≡ g n) → turn s c f ≡ turn s c g
-turn-same (RefusedStep r) c f g h = refl
-turn-same (Read d) c f g h = rw (h d.body)
+turn-same : (s : Result Head Refusal) (c : Command) (f g : ℕ → Reading (List Command)) → ((n : ℕ) → f n ≡ g n) → turn s c f ≡ turn s c g
+turn-same (Err r) c f g h = refl
+turn-same (Ok d) c f g h = rw (h d.body)
 
 -- a step by its position
 pub unrolled : (byte0 : ℕ) (ws : List ℕ) (at : ℕ)
@@ -45,7 +43,7 @@ unrolled byte0 ws at = go (ltb at (length ws)) refl
 
     go : (b : Bool) → ltb at (length ws) ≡ b
         → commands_from byte0 at 0 (drop at ws)
-        ≡ turn (cond b (step_on byte0 at (get_or ws at 0) (length ws - at - 1) address) (RefusedStep (refused_at 3 at))) (command_of byte0 (get_or ws at 0) (drop (at + 1) ws)) (λ n. commands_from byte0 (at + 1 + n) 0 (drop (at + 1 + n) ws))
+        ≡ turn (cond b (step_on byte0 at (get_or ws at 0) (length ws - at - 1) address) (Err (refused_at 3 at))) (command_of byte0 (get_or ws at 0) (drop (at + 1) ws)) (λ n. commands_from byte0 (at + 1 + n) 0 (drop (at + 1 + n) ws))
     go false z = rw (drop_of_length-le ws (ltb-false at (length ws) z))
     go true z =
         let l = ltb-true at (length ws) z in
@@ -61,7 +59,7 @@ pub record Got (byte0 : ℕ) (ws : List ℕ) (at : ℕ) (d : Head) : Type 0 wher
   pub counted : d.count ≡ count_of (get_or ws at 0)
   pub asking : asks (kind_of byte0) ≡ true
 
-pub got : (byte0 : ℕ) (ws : List ℕ) (at : ℕ) (d : Head) → step_at byte0 ws at ≡ Read d → Got byte0 ws at d
+pub got : (byte0 : ℕ) (ws : List ℕ) (at : ℕ) (d : Head) → step_at byte0 ws at ≡ Ok d → Got byte0 ws at d
 unfolding step_at step_on head_of
 got byte0 ws at d e = go (ltb at (length ws)) refl (eqb fault 0) refl e
   where
@@ -69,7 +67,7 @@ got byte0 ws at d e = go (ltb at (length ws)) refl (eqb fault 0) refl e
     fault = fault_of byte0 (get_or ws at 0) (length ws - at - 1) (address_from (address_words byte0) (drop (at + 1) ws))
 
     go : (a : Bool) → ltb at (length ws) ≡ a → (b : Bool) → eqb fault 0 ≡ b
-        → cond a (cond b (Read (head_of byte0 (get_or ws at 0))) (RefusedStep (refused_at fault at))) (RefusedStep (refused_at 3 at)) ≡ Read d
+        → cond a (cond b (Ok (head_of byte0 (get_or ws at 0))) (Err (refused_at fault at))) (Err (refused_at 3 at)) ≡ Ok d
         → Got byte0 ws at d
     go false z b y e = let n : ◌≡◌ {A = ℕ} 0 1 = cc in absurd (omega arith)
     go true z false y e = let n : ◌≡◌ {A = ℕ} 0 1 = cc in absurd (omega arith)
@@ -81,11 +79,11 @@ got byte0 ws at d e = go (ltb at (length ws)) refl (eqb fault 0) refl e
         record { here = l; within = omega (arith, s.within); counted = ap (λ (x : Head). x.count) (sym is); asking = s.asking }
 
 finish-before : (byte0 answer : ℕ) (c : Command) (p : Reading (List Command))
-    → finish byte0 answer (before c p) ≡ finish byte0 (answer + 1 + reply_words (kind_of byte0) c.count) p
+    → finish byte0 answer (before c p) ≡ finish byte0 (answer + (1 + reply_words (kind_of byte0) c.count)) p
 unfolding finish replies
 finish-before byte0 answer c (Refused r) = refl
 finish-before byte0 answer c (Means cs) =
-    let e : answer + (1 + reply_words (kind_of byte0) c.count + replies byte0 cs) ≡ answer + 1 + reply_words (kind_of byte0) c.count + replies byte0 cs = omega arith in
+    let e : answer + (1 + reply_words (kind_of byte0) c.count + replies byte0 cs) ≡ answer + (1 + reply_words (kind_of byte0) c.count) + replies byte0 cs = omega arith in
     rw e
 
 -- what a request adds to the answer beside its header
@@ -111,11 +109,11 @@ module _ {byte0 : ℕ} {ws : List ℕ} {at answer : ℕ} (g : Going byte0 ws at 
       ≡ finish byte0 0 (commands_from byte0 0 0 ws)
   on = ap (finish byte0 answer) (sym (unrolled byte0 ws at)) ∙ g.same
 
-  pub going-refused : (r : Refusal) → step_at byte0 ws at ≡ RefusedStep r → RefusedWalk r ≡ finish byte0 0 (commands_from byte0 0 0 ws)
+  pub going-refused : (r : Refusal) → step_at byte0 ws at ≡ Err r → Err r ≡ finish byte0 0 (commands_from byte0 0 0 ws)
   unfolding finish
   going-refused r e = rw e at on
 
-  module _ (d : Head) (e : step_at byte0 ws at ≡ Read d) where
+  module _ (d : Head) (e : step_at byte0 ws at ≡ Ok d) where
     abbrev reply : ℕ
     reply = reply_words (kind_of byte0) d.count
 
@@ -123,46 +121,51 @@ module _ {byte0 : ℕ} {ws : List ℕ} {at answer : ℕ} (g : Going byte0 ws at 
     unfolding command_of
     count-is = rw (got byte0 ws at d e).counted
 
-    pub going-last : d.last ≡ true → end_of byte0 (answer + 1 + reply) ≡ finish byte0 0 (commands_from byte0 0 0 ws)
+    pub going-last : d.last ≡ true → end_of byte0 (answer + (1 + reply)) ≡ finish byte0 0 (commands_from byte0 0 0 ws)
     unfolding finish replies
     going-last l =
-        let q : answer + (1 + reply_words (kind_of byte0) (command_of byte0 (get_or ws at 0) (drop (at + 1) ws)).count + 0) ≡ answer + 1 + reply = omega (arith, count-is) in
+        let q : answer + (1 + reply_words (kind_of byte0) (command_of byte0 (get_or ws at 0) (drop (at + 1) ws)).count + 0) ≡ answer + (1 + reply) = omega (arith, count-is) in
         rw (← q) (rw (e, l) at on)
 
-    pub going-small : answer + 1 + reply ≤ 4096 * (at + 1)
+    pub going-small : answer + (1 + reply) ≤ 4096 * (at + 1)
     going-small = omega (arith, reply-le (kind_of byte0) d.count, (got byte0 ws at d e).counted, g.small)
 
-    pub going_on : d.last ≡ false → Going byte0 ws (at + 1 + d.body) (answer + 1 + reply)
+    pub going_on : d.last ≡ false → Going byte0 ws (at + (1 + d.body)) (answer + (1 + reply))
     going_on l =
+        let next : at + (1 + d.body) ≡ at + 1 + d.body = omega arith in
         record {
           most = g.most;
-          within = (got byte0 ws at d e).within;
+          within = omega (arith, (got byte0 ws at d e).within);
           small = omega (arith, going-small);
-          same = rw (← count-is) (sym (finish-before byte0 answer _ _) ∙ rw (e, l) at on);
+          same = rw (← count-is, next) (sym (finish-before byte0 answer _ _) ∙ rw (e, l) at on);
         }
 
-    pub going_less : length ws - (at + 1 + d.body) < length ws - at
+    pub going_less : length ws - (at + (1 + d.body)) < length ws - at
     going_less = omega (arith, (got byte0 ws at d e).here)
 
+-- byte 0 of a request
+abbrev pub first : Request → ℕ
+first r = r.byte0
+
 -- what the walk tells is what the datagram reads as
-pub walked-ended : (byte0 : ℕ) (p : Reading (List Command)) → finish byte0 0 p ≡ walked (ended byte0 p)
+pub walked-ended : (byte0 : ℕ) (p : Reading (List Command)) → finish byte0 0 p ≡ given first (ended byte0 p)
 unfolding ended finish end_of
 walked-ended byte0 (Refused r) = refl
 walked-ended byte0 (Means cs) =
     let z : 0 + replies byte0 cs ≡ replies byte0 cs = omega arith in
     rw z (go (leb (replies byte0 cs) limit))
   where
-    go : (b : Bool) → cond b (WellFormed byte0) (RefusedWalk (refusal 10)) ≡ walked (cond {A = Reading Request} b (Means (record { byte0 = byte0; commands = cs })) (Refused (refusal 10)))
+    go : (b : Bool) → ◌≡◌ {A = Result ℕ Refusal} (cond b (Ok byte0) (Err (refusal 10))) (given first (cond {A = Reading Request} b (Means (record { byte0 = byte0; commands = cs })) (Refused (refusal 10))))
     go true = refl
     go false = refl
 
 -- the whole walk, by the datagram's length
-pub walk-long : (dg : List ℕ) → length_ok (length dg) ≡ false → RefusedWalk (refusal 2) ≡ walk_of dg
-unfolding walk_of read
+pub walk-long : (dg : List ℕ) → length_ok (length dg) ≡ false → Err (refusal 2) ≡ given first (read dg)
+unfolding read
 walk-long dg e = rw e
 
-pub walk-whole : (dg : List ℕ) (byte0 : ℕ) → length_ok (length dg) ≡ true → byte0 ≡ get_or dg 0 0 → finish byte0 0 (commands_from byte0 0 0 (words_of dg)) ≡ walk_of dg
-unfolding walk_of read
+pub walk-whole : (dg : List ℕ) (byte0 : ℕ) → length_ok (length dg) ≡ true → byte0 ≡ get_or dg 0 0 → finish byte0 0 (commands_from byte0 0 0 (words_of dg)) ≡ given first (read dg)
+unfolding read
 walk-whole dg byte0 l e = rw (l, e) (walked-ended (get_or dg 0 0) (commands_from (get_or dg 0 0) 0 0 (words_of dg)))
 
 -- what a walk that lets by means, and one that refuses
@@ -171,21 +174,19 @@ pub record Meant (dg : List ℕ) (byte0 : ℕ) : Type 0 where
   pub is : read dg ≡ Means meaning
   pub first : byte0 ≡ meaning.byte0
 
-pub walk-means : (dg : List ℕ) (byte0 : ℕ) → walk_of dg ≡ WellFormed byte0 → Meant dg byte0
-unfolding walk_of
+pub walk-means : (dg : List ℕ) (byte0 : ℕ) → given first (read dg) ≡ Ok byte0 → Meant dg byte0
 walk-means dg byte0 e = go (read dg) refl e
   where
-    go : (p : Reading Request) → read dg ≡ p → walked p ≡ WellFormed byte0 → Meant dg byte0
-    go (Refused r) z x = let n : ◌≡◌ {A = ℕ} 0 1 = cc in absurd (omega arith)
+    go : (p : Reading Request) → read dg ≡ p → given first p ≡ Ok byte0 → Meant dg byte0
+    go (Refused r) z x = cc
     go (Means r) z x = record { meaning = r; is = z; first = cc }
 
-pub walk-wrong : (dg : List ℕ) (r : Refusal) → walk_of dg ≡ RefusedWalk r → read dg ≡ Refused r
-unfolding walk_of
+pub walk-wrong : (dg : List ℕ) (r : Refusal) → given first (read dg) ≡ Err r → read dg ≡ Refused r
 walk-wrong dg r e = go (read dg) refl e
   where
-    go : (p : Reading Request) → read dg ≡ p → walked p ≡ RefusedWalk r → read dg ≡ Refused r
+    go : (p : Reading Request) → read dg ≡ p → given first p ≡ Err r → read dg ≡ Refused r
     go (Refused q) z x = let n : q ≡ r = cc in z ∙ ap Refused n
-    go (Means m) z x = let n : ◌≡◌ {A = ℕ} 0 1 = cc in absurd (omega arith)
+    go (Means m) z x = cc
 
 -- an accepted datagram has a right length, and its first byte is the request's byte 0
 pub read_first : (dg : List ℕ) (r : Request) → read dg ≡ Means r → Right (length dg) × (get_or dg 0 0 ≡ r.byte0)

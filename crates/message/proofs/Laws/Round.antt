@@ -14,7 +14,7 @@ use Rattle.header.specs.Limits.{limit, length_ok}
 use Rattle.header.specs.Header.{kind_of, byte1_of, count_of, header_from, address_words, body_words, head_of, ends_ok}
 use Rattle.header.proofs.Laws.Header.{byte0-back, byte1-back, count-back, reserved-back, last-back, header-lt, address-le}
 use Rattle.header.proofs.Laws.Limits.{length-fits}
-use Rattle.message.specs.declared.walk.Step.TheVariants.{Read}
+use Rattle.std.specs.Prelude.{Ok}
 use Rattle.message.specs.Faults.{asks}
 use Rattle.message.specs.Walk.{step_on, command_of, commands_from, ended, read}
 use Rattle.message.specs.Request.{Command, Request, Means, before, command_words, none, request_words, written, FitsCommand, All, FitsAsked}
@@ -95,7 +95,7 @@ module _ (byte0 : ℕ) (hb : byte0 < 256) (asking : asks (kind_of byte0) ≡ tru
     unfolding commands_from command_words head_of
     one-back at r e =
         let whole : length (ad ++ c.payload ++ r) ≡ body_words byte0 c.count + length r = length-append (ad ++ c.payload) r ∙ rw body-long in
-        let st : step_on byte0 at h (length (ad ++ c.payload ++ r)) (address_from (address_words byte0) (ad ++ c.payload ++ r)) ≡ Read (head_of byte0 h) =
+        let st : step_on byte0 at h (length (ad ++ c.payload ++ r)) (address_from (address_words byte0) (ad ++ c.payload ++ r)) ≡ Ok (head_of byte0 h) =
         rw (whole, address_is r) (step-read byte0 at h _ _ (faultless byte0 h _ _ (sound-header (length r) e))) in
         rw (
           st,

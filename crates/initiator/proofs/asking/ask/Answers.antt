@@ -4,13 +4,13 @@ use Rattle.message.proofs.Laws.Going.{walk-means, walk-wrong}
 use Rattle.initiator.proofs.Laws.Asked.{ask-refused, ask-plain}
 use Rattle.initiator.proofs.asking.ask.Goals as goal
 
-pub returns-in-Refused : goal.returns-in-Refused
-returns-in-Refused c =
+pub returns-in-Err : goal.returns-in-Err
+returns-in-Err c =
     let w = c.before in
-    ask-refused _ _ (walk-wrong _ _ (sym w.walk-walked.ensures ∙ w.in-Refused.is))
+    ask-refused _ _ (walk-wrong _ _ (sym w.walk.ensures ∙ w.in-Err.is))
 
-pub returns-in-WellFormed : goal.returns-in-WellFormed
-returns-in-WellFormed c =
+pub returns-in-Ok : goal.returns-in-Ok
+returns-in-Ok c =
     let w = c.before.before in
-    let m = walk-means _ _ (sym w.walk-walked.ensures ∙ w.in-WellFormed.is) in
+    let m = walk-means _ _ (sym w.walk.ensures ∙ w.in-Ok.is) in
     c.plain.ensures ∙ ask-plain _ _ m.is m.first

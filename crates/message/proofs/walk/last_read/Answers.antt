@@ -1,22 +1,9 @@
 -- `message::walk::last_read` meets its contract: each test is a premise of `read-faultless`. Assumes nothing.
 use mathlib.Core.Path.{◌≡◌, sym, ◌∙◌}
-use mathlib.Core.Bool.{false≢true}
 use Rattle.header.specs.Header.{count_of}
 use Rattle.message.proofs.Laws.Faults.{read-faultless}
 use borrow.Author.Tests.{eqb-true}
 use Rattle.message.proofs.walk.last_read.Goals as goal
-
-pub returns-then-not-reads : goal.returns-then-not-reads
-returns-then-not-reads c e = absurd (false≢true e)
-
-pub returns-then-byte0 : goal.returns-then-byte0
-returns-then-byte0 c e = absurd (false≢true e)
-
-pub returns-then-h-ne8 : goal.returns-then-h-ne8
-returns-then-h-ne8 c e = absurd (false≢true e)
-
-pub returns-then-count-eq0 : goal.returns-then-count-eq0
-returns-then-count-eq0 c e = absurd (false≢true e)
 
 pub returns : goal.returns
 returns c e =

@@ -1,22 +1,12 @@
 -- `message::walk::short_write` meets its contract: each test is a premise of `short-faultless`. Assumes nothing.
 use mathlib.Core.Path.{sym, ◌∙◌}
 use Prim.Native.Nat.{◌+◌}
-use mathlib.Core.Bool.{false≢true}
 use Rattle.word.proofs.Rules.{flag-on}
 use Rattle.header.specs.Header.{kind_of}
 use Rattle.message.proofs.Laws.Faults.{write-is, short-faultless}
 use native.Mathlib.Omega.{arith}
 use borrow.Author.Tests.{eqb-true, leb-true}
 use Rattle.message.proofs.walk.short_write.Goals as goal
-
-pub returns-then-not-writes : goal.returns-then-not-writes
-returns-then-not-writes c e = absurd (false≢true e)
-
-pub returns-then-byte0 : goal.returns-then-byte0
-returns-then-byte0 c e = absurd (false≢true e)
-
-pub returns-then-h-ne16 : goal.returns-then-h-ne16
-returns-then-h-ne16 c e = absurd (false≢true e)
 
 pub returns-then-last : goal.returns-then-last
 returns-then-last c e =

@@ -1,20 +1,24 @@
 -- `message::walk::step_at` meets its contract: no header, a short write, a last read, the fault, or the header. Assumes
 -- nothing.
-use Prim.Native.Nat.{◌+◌}
-use borrow.Author.Tests.{lt-ltb}
-use lib.ListN.{drop}
+use mathlib.Core.Path.{◌≡◌}
+use Prim.Native.Nat.{◌+◌, ◌-◌, ◌/◌}
+use lib.ListN.{drop, length}
 use Rattle.word.specs.Words.{words_of}
-use Rattle.word.proofs.Rules.{tests}
 use Rattle.word.proofs.Crossing.{length-words_of}
 use Rattle.header.specs.Header.{head_of, address_words}
+use Rattle.header.proofs.Laws.Refusal.{check-passed, ok_of}
+use Rattle.message.specs.Faults.{fault_of}
 use Rattle.message.specs.Walk.{step_on, step_at}
 use Rattle.message.specs.Address.{address_from}
 use Rattle.message.proofs.Laws.Faults.{step-read}
+use Rattle.message.proofs.walk.step_at.Goals.{then-not-last_read+in_ok-fault, else-not-last_read}
 use Rattle.message.proofs.walk.step_at.Goals as goal
+use Rattle.std.proofs.Common.{rules}
+use Rattle.word.proofs.Rules.{tests}
 
-pub returns-then-n-at : goal.returns-then-n-at
+pub returns-in_err-check : goal.returns-in_err-check
 unfolding step_at
-returns-then-n-at c = search (tests, length-words_of)
+returns-in_err-check c = search (rules, tests, length-words_of)
 
 pub returns-then-short_write : goal.returns-then-short_write
 unfolding step_at head_of
@@ -22,25 +26,21 @@ returns-then-short_write c =
     let a = c.args in
     let s = c.short_write.ensures c.if-short_write.true in
     let address = address_from (address_words a.byte0) (drop (a.at + 1) (words_of a.datagram.now)) in
-    rw (length-words_of a.datagram.now, ← c.word_at-h.ensures, lt-ltb _ _ c.if-n-at.false, step-read _ _ _ _ _ (s.2 address))
+    rw (length-words_of a.datagram.now, ← c.word_at-h.ensures, check-passed _ _ c.in_ok-check.ensures, step-read _ _ _ _ _ (s.2 address))
     (simp (s.0, s.1, c.byte1.ensures.value, c.address_words.ensures.value, c.last.ensures))
 
-pub returns-then-last_read : goal.returns-then-last_read
-unfolding step_at
-returns-then-last_read c =
-    let a = c.args in
-    let address = address_from (address_words a.byte0) (drop (a.at + 1) (words_of a.datagram.now)) in
-    let none = c.last_read.ensures c.if-last_read.true address in
-    let there = lt-ltb _ _ c.if-n-at.false in
-    rw (length-words_of a.datagram.now, ← c.word_at-h.ensures, there, step-read _ _ _ _ _ none)
-    (simp c.head_of.ensures)
-
-pub returns-then-number-ne0 : goal.returns-then-number-ne0
+pub returns-in_err-fault : goal.returns-in_err-fault
 unfolding step_at step_on
-returns-then-number-ne0 c =
-    search (tests, length-words_of, ← c.word_at-h.ensures, ← c.fault-number.ensures)
+returns-in_err-fault c = search (rules, tests, length-words_of)
 
 pub returns : goal.returns
-unfolding step_at step_on
+unfolding step_at
 returns c =
-    search (tests, length-words_of, ← c.word_at-h.ensures, ← c.fault-number.ensures, c.head_of-2.ensures)
+    let a = c.args in
+    let address = address_from (address_words a.byte0) (drop (a.at + 1) (words_of a.datagram.now)) in
+    let none : fault_of a.byte0 c.word_at-h.result (length a.datagram.now / 4 - a.at - 1) address ≡ 0 = elim c.if-not-last_read.branch [
+      | then-not-last_read+in_ok-fault w ↦ (ok_of _ tt w.in_ok-fault.ensures).0
+      | else-not-last_read w ↦ c.last_read.ensures w.if-not-last_read.false address
+    ] in
+    rw (length-words_of a.datagram.now, ← c.word_at-h.ensures, check-passed _ _ c.in_ok-check.ensures, step-read _ _ _ _ _ none)
+    (simp c.head_of.ensures)
