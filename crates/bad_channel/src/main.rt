@@ -7,163 +7,110 @@
 #![tactic(auto)]
 
 use channel_run::controller::Controller;
-use channel_run::{Bytes, controller, loader};
+use channel_run::{Bytes, Channel, loader};
 use initiator::sender::Sender;
 use message::discovery;
 
 mod messages;
 mod round;
 
-// Five rounds.
-const STEPS: u32 = 5 * round::STEPS;
+use round::{Event, ROUND};
 
-// The two ends, the controller's memory, the last answer to a message of each place, and how many messages have ended,
-// modulo 256.
-#[derive(Drop)]
+// The two ends, the controller's memory, the last answer to each message, and how many messages have ended, modulo 256.
+#[derive(Clone, Copy)]
 struct Ends {
     sender: Sender,
     controller: Controller,
     memory: [u32; 8],
-    answers: [Bytes; 4],
+    answers: Channel,
     done: u8,
 }
 
-// Message i is offered, and sent; that send is lost.
-fn offers(mut ends: Ends, i: u32) -> Ends {
-    let s = loader::offer(ends.sender, messages::compose(i));
-    ends.sender = s;
-    ends
-}
-
-// The answer to message i.
-fn answer_of(answers: [Bytes; 4], i: u32) -> Bytes {
-    answers[(i % 4) as usize]
-}
-
-// The answers with that to message i, where it is one.
-fn with_answer(answers: [Bytes; 4], i: u32, answer: Bytes) -> [Bytes; 4] {
-    let mut then = answers;
-    if answer.n > 0 {
-        then[(i % 4) as usize] = answer;
+impl Ends {
+    fn dusk() -> Ends {
+        Ends {
+            sender: Sender::fresh(),
+            controller: Controller::fresh(0),
+            memory: [0; 8],
+            answers: Channel::empty(),
+            done: 0,
+        }
     }
-    then
-}
 
-// A datagram of message i comes to the controller.
-fn arrives(mut ends: Ends, i: u32, datagram: Bytes) -> Ends {
-    let bytes = datagram.bytes;
-    let mut memory = ends.memory;
-    let arrived = controller::serves(
-        &mut memory,
-        ends.controller,
-        show::front(&bytes, datagram.n),
-    );
-    ends.memory = memory;
-    let controller = arrived.controller;
-    ends.controller = controller;
-    let before = ends.answers;
-    let answers = with_answer(before, i, arrived.answer);
-    ends.answers = answers;
-    ends
-}
-
-// Message i, which waits, is sent and arrives.
-fn sends(ends: Ends, i: u32) -> Ends {
-    let sent = loader::send(ends.sender, messages::compose(i));
-    arrives(ends, i, sent)
-}
-
-// The outcome of message i.
-fn tell(answers: [Bytes; 4], i: u32) {
-    loader::tell(i, messages::compose(i), answer_of(answers, i));
-}
-
-// The outcomes of the messages that ended, the oldest first.
-fn tell_all(answers: [Bytes; 4], first: u8, ended: u8) {
-    let mut j = 0;
-    while j < ended {
-        tell(answers, first as u32 + j as u32);
-        j += 1;
+    // Message i is offered, and sent; that send is lost.
+    fn offers(&mut self, i: u32) {
+        self.sender = loader::offer(self.sender, messages::compose(i).as_slice());
     }
-}
 
-// An answer comes to the sender, to which message `lent` is lent, and the outcomes of the messages that end.
-fn takes(mut ends: Ends, lent: u32, answer: Bytes) -> Ends {
-    let taken = loader::take(ends.sender, messages::compose(lent), answer);
-    let answers = ends.answers;
-    tell_all(answers, ends.done, taken.ended);
-    let s = taken.sender;
-    ends.sender = s;
-    ends.done = ((ends.done as u32 + taken.ended as u32) % 256) as u8;
-    ends
-}
+    // A datagram comes to the controller: its answer.
+    fn comes(&mut self, datagram: &[u8]) -> Bytes {
+        let answer = self.controller.serve(&mut self.memory, datagram);
+        show::say(b":");
+        show::say_bytes(answer.as_slice());
+        answer
+    }
 
-// The answer to message i comes to the sender.
-fn comes_back(ends: Ends, lent: u32, i: u32) -> Ends {
-    let answers = ends.answers;
-    takes(ends, lent, answer_of(answers, i))
-}
+    // A datagram of message i comes.
+    fn arrives(&mut self, i: u32, datagram: &Bytes) {
+        let answer = self.comes(datagram.as_slice());
+        self.answers.put(i, answer);
+    }
 
-// A discovery comes, and its answer comes to the sender.
-fn discovers(mut ends: Ends, lent: u32) -> Ends {
-    let asks = discovery::bytes();
-    let mut memory = ends.memory;
-    let arrived = controller::serves(&mut memory, ends.controller, &asks);
-    let controller = arrived.controller;
-    ends.controller = controller;
-    show::say(b"its answer");
-    takes(ends, lent, arrived.answer)
-}
+    // An answer comes to the sender, to which message `lent` is lent, and the outcomes of the messages that end, the
+    // oldest first.
+    fn takes(&mut self, lent: u32, answer: &Bytes) {
+        let message = messages::compose(lent);
+        let taken = loader::take(self.sender, message.as_slice(), answer.as_slice());
+        let done = u32::from(self.done);
+        for i in done..done + u32::from(taken.ended) {
+            loader::tell(
+                i,
+                messages::compose(i).as_slice(),
+                self.answers.get(i).as_slice(),
+            );
+        }
+        self.sender = taken.sender;
+        self.done = self.done.wrapping_add(taken.ended);
+    }
 
-// A step, in which message i comes. An answer to no message that waits comes with the oldest lent.
-fn play(ends: Ends, step: u32, i: u32) -> Ends {
-    let oldest = ends.done as u32;
-    match step {
-        0..=4 | 24 => offers(ends, i),
-        5 | 23 => comes_back(ends, oldest, i),
-        6..=15 | 25 => sends(ends, i),
-        16..=17 => arrives(ends, i, messages::compose(i)),
-        18 => discovers(ends, oldest),
-        _ => comes_back(ends, i, i),
+    // The answer to message i comes to the sender.
+    fn comes_back(&mut self, lent: u32, i: u32) {
+        let answer = self.answers.get(i);
+        self.takes(lent, &answer);
+    }
+
+    // An event of message i. An answer to no message that waits comes with the oldest lent.
+    fn play(&mut self, event: Event, i: u32) {
+        let oldest = u32::from(self.done);
+        match event {
+            Event::Offer | Event::FifthOffer => self.offers(i),
+            Event::Early | Event::Arrives | Event::Again => {
+                let sent = loader::send(self.sender, &messages::compose(i));
+                self.arrives(i, &sent);
+            }
+            Event::Late => self.arrives(i, &messages::compose(i)),
+            Event::Discovery => {
+                let answer = self.comes(&discovery::bytes());
+                show::say(b"its answer");
+                self.takes(oldest, &answer);
+            }
+            Event::Answer | Event::AnswerAgain => self.comes_back(i, i),
+            Event::OldAnswer => self.comes_back(oldest, i),
+        }
     }
 }
 
-// Step t of the night. No message comes that is older than the first.
-fn step(ends: Ends, t: u32) -> Ends {
-    let step = t % round::STEPS;
-    let behind = round::behind(step);
-    let i = 5 * (t / round::STEPS) + round::ahead(step);
-    if i < behind {
-        return ends;
-    }
-    round::say(step, i - behind);
-    play(ends, step, i - behind)
-}
-
-fn dusk() -> Ends {
-    Ends {
-        sender: Sender::fresh(),
-        controller: Controller::fresh(0),
-        memory: [0; 8],
-        answers: [Bytes::none(); 4],
-        done: 0,
-    }
-}
-
-// The night.
-fn night() -> Ends {
-    let mut ends = dusk();
-    let mut t = 0;
-    while t < STEPS {
-        ends = step(ends, t);
-        t += 1;
-    }
-    ends
-}
-
+// Five rounds. No message comes that is older than the first.
 fn main() {
-    let ends = night();
-    let memory = ends.memory;
+    let mut ends = Ends::dusk();
+    for round in 0..5u8 {
+        for (event, ahead) in ROUND {
+            if let Ok(i) = u32::try_from(5 * i32::from(round) + i32::from(ahead)) {
+                show::number(event.label(), u64::from(i));
+                ends.play(event, i);
+            }
+        }
+    }
     show::say(b"memory");
-    show::say_words(&memory);
+    show::say_words(&ends.memory);
 }

@@ -1,62 +1,65 @@
-// What a round plays, step by step, counted from 0: what each step is called, and which message comes in it.
-ghost use Rattle.std.specs.Prelude.{◌<◌};
+// A round: what happens in it, and to which message, counted from the first of the round: below 0 it is one of a round
+// before. The last of the round before comes late, and the oldest that may still come.
 
-pub(crate) const STEPS: u32 = 28;
-
-// The label of a step, and the number of its message.
-pub(crate) fn say(step: u32, i: u32) {
-    show::line(
-        b"offer
-offer
-offer
-offer
-fifth offer
-old answer
-early
-arrives
-early
-arrives
-arrives
-arrives
-again
-again
-again
-again
-late
-late
-discovery beside
-answer
-answer
-answer again
-answer
-old answer
-offer
-arrives
-answer
-answer",
-        step as usize,
-    );
-    show::number(b" ", i as u64);
+#[derive(Clone, Copy)]
+pub(crate) enum Event {
+    Offer,
+    FifthOffer,
+    OldAnswer,
+    Early,
+    Arrives,
+    Again,
+    Late,
+    Discovery,
+    Answer,
+    AnswerAgain,
 }
 
-// The message of a step, counted from the first of its round.
-pub(crate) fn ahead(step: u32) -> u32
-    ensures { result < 5 }
-{
-    match step {
-        1 | 9 | 13 | 20 => 1,
-        2 | 8 | 10 | 14 | 27 => 2,
-        3 | 6 | 11 | 15 | 19 | 21 => 3,
-        4 | 24..=26 => 4,
-        _ => 0,
+impl Event {
+    // What it is called.
+    pub(crate) fn label(self) -> &'static [u8] {
+        match self {
+            Event::Offer => b"offer ",
+            Event::FifthOffer => b"fifth offer ",
+            Event::OldAnswer => b"old answer ",
+            Event::Early => b"early ",
+            Event::Arrives => b"arrives ",
+            Event::Again => b"again ",
+            Event::Late => b"late ",
+            Event::Discovery => b"discovery beside ",
+            Event::Answer => b"answer ",
+            Event::AnswerAgain => b"answer again ",
+        }
     }
 }
 
-// How far before that message the one is which comes: the last of the round before, and the oldest that may still come.
-pub(crate) fn behind(step: u32) -> u32 {
-    match step {
-        5 | 16 => 1,
-        17 => 11,
-        _ => 0,
-    }
-}
+pub(crate) const ROUND: [(Event, i8); 28] = [
+    (Event::Offer, 0),
+    (Event::Offer, 1),
+    (Event::Offer, 2),
+    (Event::Offer, 3),
+    (Event::FifthOffer, 4),
+    (Event::OldAnswer, -1),
+    (Event::Early, 3),
+    (Event::Arrives, 0),
+    (Event::Early, 2),
+    (Event::Arrives, 1),
+    (Event::Arrives, 2),
+    (Event::Arrives, 3),
+    (Event::Again, 0),
+    (Event::Again, 1),
+    (Event::Again, 2),
+    (Event::Again, 3),
+    (Event::Late, -1),
+    (Event::Late, -11),
+    (Event::Discovery, 0),
+    (Event::Answer, 3),
+    (Event::Answer, 1),
+    (Event::AnswerAgain, 3),
+    (Event::Answer, 0),
+    (Event::OldAnswer, 0),
+    (Event::Offer, 4),
+    (Event::Arrives, 4),
+    (Event::Answer, 4),
+    (Event::Answer, 2),
+];

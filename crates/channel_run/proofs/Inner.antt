@@ -1,3 +1,2 @@
 -- What one proof of the crate wants.
 pub mod Compose
-pub mod Script

@@ -1,37 +1,24 @@
-// What the programs share that play a night between the two ends: a message or an answer as bytes, and each end's calls
-// on their real functions, which print what they gave.
+// What the programs share that play a night between the two ends: a message or an answer as bytes, a channel, and each
+// end's calls on their real functions, which print what they gave.
 //
 // No contract can say what is written. What only prints is safe, ends, and reads what it is lent; what a call gives,
 // its contract says.
 #![tactic(auto)]
 
-ghost use Rattle.std.specs.Prelude.{◌≡◌};
-ghost use Rattle.channel_run.specs.Bytes.{no_bytes, place_of, placed, composed};
+ghost use Rattle.std.specs.Prelude.{◌≡◌, false, replicate};
+ghost use Rattle.header.specs.Header.{number_of};
+ghost use Rattle.channel_run.specs.Bytes.{no_bytes, datagram_in, place_of, placed, composed};
 
 use building::asked::Asked;
 use building::build;
-use header::limits;
+use header::{Kind, limits};
 
 pub mod controller;
 pub mod loader;
+pub mod night;
 pub mod script;
 
-// Line i of a text, and a number behind it.
-fn number(labels: &[u8], i: usize, n: u32) {
-    show::line(labels, i);
-    show::number(b"", n as u64);
-}
-
-// Each number behind its line of a text.
-pub fn numbers(labels: &[u8], numbers: &[u32]) {
-    let mut i = 0;
-    while i < numbers.len() {
-        number(labels, i, numbers[i]);
-        i += 1;
-    }
-}
-
-// A message or an answer: the first n of some bytes.
+// A message or an answer: the first n of some bytes. Where n is 0 it is none, as both ends say it.
 #[derive(Clone, Copy)]
 pub struct Bytes {
     pub bytes: [u8; limits::LIMIT_BYTES],
@@ -48,43 +35,62 @@ impl Bytes {
             n: 0,
         }
     }
-}
 
-// What is in a channel of eight places at this number, modulo 8.
-pub fn of(channel: [Bytes; 8], i: u32) -> Bytes
-    ensures { result ≡ place_of channel i }
-{
-    channel[(i % 8) as usize]
-}
-
-// The channel with this datagram there, where it is one.
-pub fn with(channel: [Bytes; 8], i: u32, datagram: Bytes) -> [Bytes; 8]
-    ensures { result ≡ placed channel i datagram }
-{
-    let mut then = channel;
-    if datagram.n > 0 {
-        then[(i % 8) as usize] = datagram;
+    // The datagram.
+    pub fn as_slice(&self) -> &[u8]
+        ensures { result.now ≡ datagram_in self.now }
+    {
+        show::front(&self.bytes, self.n)
     }
-    then
 }
 
-pub const WRITE: u32 = 1;
+// A channel of eight places, which hold the last datagram of each number, modulo 8.
+#[derive(Clone, Copy)]
+pub struct Channel {
+    pub places: [Bytes; 8],
+}
 
-pub const READ: u32 = 2;
+impl Channel {
+    // Nothing is in it.
+    pub fn empty() -> Channel
+        ensures { result.places ≡ replicate 8 no_bytes }
+    {
+        Channel {
+            places: [Bytes::none(); 8],
+        }
+    }
+
+    // What is there at this number.
+    pub fn get(&self, i: u32) -> Bytes
+        ensures { result ≡ place_of self.now.places i }
+    {
+        self.places[(i % 8) as usize]
+    }
+
+    // This datagram is put there, where it is one.
+    pub fn put(&mut self, i: u32, datagram: Bytes)
+        ensures { self.new.places ≡ placed self.old.places i datagram }
+    {
+        if datagram.n > 0 {
+            self.places[(i % 8) as usize] = datagram;
+        }
+    }
+}
 
 // The message of one command, with the word that a write has.
-pub fn compose(kind: u32, tag: u32, asked: Asked, word: u32) -> Bytes
-    ensures { result ≡ composed kind tag asked word }
+pub fn compose(kind: Kind, tag: u32, asked: Asked, word: u32) -> Bytes
+    ensures { result ≡ composed (number_of kind) tag asked word }
 {
     let mut bytes = [0u8; limits::LIMIT_BYTES];
-    let begun = build::begin(&bytes, kind, tag, false, false);
-    let words = [word];
-    let added = build::add(&mut bytes, begun.building, asked, &words);
+    let begun = build::begin(&bytes, header::number(kind), tag, false, false);
+    let added = build::add(&mut bytes, begun.building, asked, &[word]);
     let closed = build::close(&mut bytes, added.building);
-    let b = closed.building;
-    if b.words > limits::LIMIT {
+    let words = closed.building.words;
+    if words > limits::LIMIT {
         return Bytes::none();
     }
-    let n = 4 * b.words;
-    Bytes { bytes, n }
+    Bytes {
+        bytes,
+        n: 4 * words,
+    }
 }

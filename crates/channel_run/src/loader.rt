@@ -10,91 +10,61 @@ use initiator::{outcome, sender};
 
 // A refusal, and the sender then: its next tag, how many wait, and which of the three younger ones are answered.
 fn say_sender(refusal: Refusal, s: Sender) {
-    crate::numbers(
-        b": refusal 
-, next 
-, waiting 
-, answered 
- 
- ",
-        &[
-            refusal.number,
-            s.next as u32,
-            s.waiting as u32,
-            s.second as u32,
-            s.third as u32,
-            s.fourth as u32,
-        ],
-    );
+    show::number(b": refusal ", u64::from(refusal.number));
+    show::number(b", next ", u64::from(s.next));
+    show::number(b", waiting ", u64::from(s.waiting));
+    show::number(b", answered ", u64::from(s.second));
+    show::number(b" ", u64::from(s.third));
+    show::number(b" ", u64::from(s.fourth));
 }
 
 // An answer comes to a loader that has asked: the sender that it makes.
-pub fn hear(answer: Bytes) -> Sender
-    ensures { result ≡ (start_of (datagram_in answer)).sender }
+pub fn hear(answer: &[u8]) -> Sender
+    ensures { result ≡ (start_of answer.now).sender }
 {
-    let bytes = answer.bytes;
-    let moved = Sender::discovered(show::front(&bytes, answer.n));
-    let refusal = moved.refusal;
-    let s = moved.sender;
-    show::number(b": refusal ", refusal.number as u64);
-    show::number(b", next ", s.next as u64);
+    let moved = Sender::discovered(answer);
+    show::number(b": refusal ", u64::from(moved.refusal.number));
+    show::number(b", next ", u64::from(moved.sender.next));
     show::say(b"\n");
-    s
+    moved.sender
 }
 
 // What is sent of a message: nothing where it does not wait.
-pub fn send(s: Sender, message: Bytes) -> Bytes
-    ensures { result ≡ first_of message.bytes (length (send_of s (datagram_in message))) }
+pub fn send(s: Sender, message: &Bytes) -> Bytes
+    ensures { result ≡ first_of message.now.bytes (length (send_of s (datagram_in message.now))) }
 {
-    let bytes = message.bytes;
-    let sent = sender::send(s, show::front(&bytes, message.n));
-    let n = sent.len();
-    Bytes { bytes, n }
+    Bytes {
+        bytes: message.bytes,
+        n: sender::send(s, message.as_slice()).len(),
+    }
 }
 
 // A message is offered, and the bytes that are then sent are shown.
-pub fn offer(s: Sender, message: Bytes) -> Sender
-    ensures { result ≡ (offer_of s (datagram_in message)).sender }
+pub fn offer(s: Sender, message: &[u8]) -> Sender
+    ensures { result ≡ (offer_of s message.now).sender }
 {
-    let bytes = message.bytes;
-    let lent = show::front(&bytes, message.n);
-    let moved = sender::offer(s, lent);
-    let then = moved.sender;
-    say_sender(moved.refusal, then);
+    let moved = sender::offer(s, message);
+    say_sender(moved.refusal, moved.sender);
     show::say(b", sends");
-    show::say_bytes(sender::send(then, lent));
-    then
-}
-
-fn say_taken(taken: Taken) {
-    say_sender(taken.refusal, taken.sender);
-    show::number(b", ended ", taken.ended as u64);
-    show::say(b"\n");
+    show::say_bytes(sender::send(moved.sender, message));
+    moved.sender
 }
 
 // An answer comes to the sender, to which this message is lent.
-pub fn take(s: Sender, message: Bytes, answer: Bytes) -> Taken
-    ensures { result ≡ take_of s (datagram_in message) (datagram_in answer) }
+pub fn take(s: Sender, message: &[u8], answer: &[u8]) -> Taken
+    ensures { result ≡ take_of s message.now answer.now }
 {
-    let bytes = message.bytes;
-    let back = answer.bytes;
-    let taken = sender::take(
-        s,
-        show::front(&bytes, message.n),
-        show::front(&back, answer.n),
-    );
-    say_taken(taken);
+    let taken = sender::take(s, message, answer);
+    say_sender(taken.refusal, taken.sender);
+    show::number(b", ended ", u64::from(taken.ended));
+    show::say(b"\n");
     taken
 }
 
 // The outcome of message i, which had this answer.
-pub fn tell(i: u32, message: Bytes, answer: Bytes) {
-    let bytes = message.bytes;
-    let request = show::front(&bytes, message.n);
-    let back = answer.bytes;
-    let answer = show::front(&back, answer.n);
-    show::number(b"outcome ", i as u64);
-    show::number(b": answered ", outcome::answered(request, answer) as u64);
+pub fn tell(i: u32, message: &[u8], answer: &[u8]) {
+    show::number(b"outcome ", u64::from(i));
+    show::number(b": answered ", outcome::answered(message, answer) as u64);
     show::say(b", data");
-    show::say_bytes(outcome::read_data(request, answer, 0));
+    show::say_bytes(outcome::read_data(message, answer, 0));
 }

@@ -1,25 +1,13 @@
-// A script: a letter and a number for each event, and one byte that parts it from the next.
+// A script: a word for each event, its letter and its number.
 ghost use Rattle.std.specs.Prelude.{◌≡◌};
-ghost use Rattle.channel_run.specs.Script.{event_at};
+ghost use Rattle.channel_run.specs.Script.{event_in};
 
-#[derive(Drop)]
-pub struct Event {
-    pub kind: u8,
-    pub i: u32,
-}
-
-// The event at this byte, which is none behind the script.
-pub fn read_at(script: &[u8], at: usize) -> Event
-    ensures { result ≡ event_at script.now at }
+// The letter and the number of a word, which is no event where it has fewer than two bytes.
+pub fn read(word: &[u8]) -> Option<(u8, u32)>
+    ensures { result ≡ event_in word.now }
 {
-    if script.len() <= at {
-        return Event { kind: b' ', i: 0 };
-    }
-    if script.len() - at < 2 {
-        return Event { kind: b' ', i: 0 };
-    }
-    Event {
-        kind: script[at],
-        i: (script[at + 1] % 16) as u32,
+    match word {
+        [letter, digit, ..] => Some((*letter, u32::from(*digit % 16))),
+        _ => None,
     }
 }

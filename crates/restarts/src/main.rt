@@ -13,246 +13,145 @@
 // and other words fill the stored answers after the reset.
 #![tactic(auto)]
 
-use channel_run::controller::Controller;
-use channel_run::{Bytes, controller, loader};
+use channel_run::night::{End, Loader, Night};
+use channel_run::{Bytes, Channel, loader};
 use initiator::sender::Sender;
-use message::discovery;
 use tags::record::TagRecord;
 
 mod messages;
 mod script;
 
+use script::Event;
+
+// The loader of a life: the life's number, its sender, the tag of its first message, and how many of its messages are
+// finished, and how many carried out, modulo 256.
 #[derive(Clone, Copy)]
-struct Night {
-    // the number of the life, and how many of its messages are carried out, modulo 256
-    life: u32,
-    carried: u8,
-    // the loader: its sender, the tag of its first message, and how many messages are finished, modulo 256
+struct Life {
+    number: u32,
     sender: Sender,
     first: u32,
     done: u8,
-    // the channel: what was sent of messages 0 to 4; the last answer to each, to the loader's discovery, which is 5,
-    // and to strangers', 6 and 7
-    requests: [Bytes; 8],
-    answers: [Bytes; 8],
-    controller: Controller,
-    memory: [u32; 3],
+    carried: u8,
 }
 
-// A life before it has begun: the sender is one that 37 stops. "Nothing sent before a restart arrives after it, nor any
-// answer to it": nothing is in the channel.
-fn begins(life: u32, controller: Controller, memory: [u32; 3]) -> Night {
-    let moved = Sender::discovered(b"");
-    let sender = moved.sender;
-    Night {
-        life,
-        carried: 0,
-        sender,
-        first: 0,
-        done: 0,
-        requests: [Bytes::none(); 8],
-        answers: [Bytes::none(); 8],
-        controller,
-        memory,
-    }
-}
-
-// Message i is sent.
-fn sends(mut night: Night, i: u32) -> Night {
-    let message = messages::compose(night.life, night.first, i);
-    let before = night.requests;
-    let requests = channel_run::with(before, i, loader::send(night.sender, message));
-    night.requests = requests;
-    night
-}
-
-// It is offered, and sent.
-fn offers(mut night: Night, i: u32) -> Night {
-    let message = messages::compose(night.life, night.first, i);
-    let s = loader::offer(night.sender, message);
-    night.sender = s;
-    sends(night, i)
-}
-
-// One more is carried out where the record then is another.
-fn counted(carried: u8, before: TagRecord, then: TagRecord) -> u8 {
-    if before.held == then.held {
-        if before.tag == then.tag {
-            return carried;
+impl Life {
+    // Before it has begun: "Nothing sent before a restart arrives after it, nor any answer to it".
+    fn new(number: u32) -> Life {
+        Life {
+            number,
+            sender: Sender::discovered(b"").sender,
+            first: 0,
+            done: 0,
+            carried: 0,
         }
     }
-    ((carried as u32 + 1) % 256) as u8
+
+    fn message(&self, i: u32) -> Bytes {
+        messages::compose(self.number, self.first, i)
+    }
+
+    // Message i is sent.
+    fn sends(&self, requests: &mut Channel, i: u32) {
+        requests.put(i, loader::send(self.sender, &self.message(i)));
+    }
+
+    // It is offered, and sent.
+    fn offers(&mut self, requests: &mut Channel, i: u32) {
+        self.sender = loader::offer(self.sender, self.message(i).as_slice());
+        self.sends(requests, i);
+    }
+
+    // The outcome of message i.
+    fn tell(&self, answers: &Channel, i: u32) {
+        show::say(b"  ");
+        loader::tell(i, self.message(i).as_slice(), answers.get(i).as_slice());
+    }
+
+    // The answer to datagram i comes to the sender. With an answer to no message the oldest is lent. The outcomes of
+    // the messages that ended, the oldest first.
+    fn takes(&mut self, answers: &Channel, i: u32) {
+        let done = u32::from(self.done);
+        let lent = self.message(if i < 5 { i } else { done });
+        let taken = loader::take(self.sender, lent.as_slice(), answers.get(i).as_slice());
+        for ended in done..done + u32::from(taken.ended) {
+            self.tell(answers, ended);
+        }
+        self.sender = taken.sender;
+        self.done = self.done.wrapping_add(taken.ended);
+    }
+
+    // How far it came.
+    fn say(&self) {
+        show::number(b"", u64::from(self.number));
+        if self.sender.next > 15 {
+            show::say(b": did not begin");
+            return;
+        }
+        let offered = u64::from(self.done) + u64::from(self.sender.waiting);
+        show::number(b": began with tag ", u64::from(self.first));
+        show::number(b", offered ", offered);
+        show::number(b", carried out ", u64::from(self.carried));
+        show::number(b", finished ", u64::from(self.done));
+    }
 }
 
-// Datagram i comes to the controller.
-fn comes(mut night: Night, i: u32, datagram: &[u8]) -> Night {
-    let c = night.controller;
-    let mut memory = night.memory;
-    let arrived = controller::serves(&mut memory, c, datagram);
-    night.memory = memory;
-    let then = arrived.controller;
-    night.carried = counted(night.carried, c.tags, then.tags);
-    night.controller = then;
-    let before = night.answers;
-    let answers = channel_run::with(before, i, arrived.answer);
-    night.answers = answers;
-    night
+impl Loader<3> for Life {
+    fn next(&self) -> Life {
+        Life::new(self.number % 256 + 1)
+    }
+
+    fn begins(&mut self, sender: Sender) {
+        self.sender = sender;
+        self.first = u32::from(sender.next);
+    }
+
+    // One more is carried out where the record then is another.
+    fn arrived(&mut self, before: TagRecord, then: TagRecord, answer: &Bytes) {
+        show::say(b":");
+        show::say_bytes(answer.as_slice());
+        if before.held != then.held || before.tag != then.tag {
+            self.carried = self.carried.wrapping_add(1);
+        }
+    }
+
+    fn say_end(&self, end: End, memory: &[u32; 3]) {
+        self.say();
+        show::say(end.label());
+        show::say(b"; memory");
+        show::say_words(memory);
+    }
 }
 
-// What was sent of message i comes.
-fn late(night: Night, i: u32) -> Night {
-    let requests = night.requests;
-    let request = channel_run::of(requests, i);
-    let bytes = request.bytes;
-    comes(night, i, show::front(&bytes, request.n))
-}
-
-// The loader asks, or its discovery comes again.
-fn asks(night: Night, i: u32) -> Night {
-    let datagram = discovery::bytes();
-    comes(night, i, &datagram)
-}
-
-// A stranger reads words 0 and 1, by a discovery with tag 1; another, 7, by one with tag 2.
-fn stranger(night: Night, i: u32) -> Night {
-    let byte0 = if i == 7 { 162u8 } else { 161u8 };
-    let datagram = [byte0, 0, 2, 128, 0, 0, 0, 0];
-    comes(night, i, &datagram)
-}
-
-// The loader has this sender, at which none waits.
-fn starts(mut night: Night, s: Sender) -> Night {
-    night.sender = s;
-    night.first = s.next as u32;
-    night
-}
-
-// It begins as one of a fresh pair.
-fn fresh(night: Night) -> Night {
-    let s = Sender::fresh();
-    show::number(b": next ", s.next as u64);
+// The loader begins as one of a fresh pair.
+fn fresh(life: &mut Life) {
+    let sender = Sender::fresh();
+    show::number(b": next ", u64::from(sender.next));
     show::say(b"\n");
-    starts(night, s)
+    life.begins(sender);
 }
 
-// The answer to datagram i comes to the loader as that to its discovery.
-fn hears(night: Night, i: u32) -> Night {
-    let answers = night.answers;
-    starts(night, loader::hear(channel_run::of(answers, i)))
-}
-
-// The outcome of message i.
-fn tell(life: u32, first: u32, answers: [Bytes; 8], i: u32) {
-    show::say(b"  ");
-    loader::tell(
-        i,
-        messages::compose(life, first, i),
-        channel_run::of(answers, i),
-    );
-}
-
-// The outcomes of the messages that ended, the oldest first.
-fn tell_all(life: u32, first: u32, answers: [Bytes; 8], done: u8, ended: u8) {
-    let mut j = 0;
-    while j < ended {
-        tell(life, first, answers, done as u32 + j as u32);
-        j += 1;
+fn play(night: &mut Night<Life, 3>, event: Event) {
+    match event {
+        Event::Offer(i) => night.loader.offers(&mut night.requests, i),
+        Event::Comes(i) => night.late(i),
+        Event::Again(i) => {
+            night.loader.sends(&mut night.requests, i);
+            night.late(i);
+        }
+        Event::Answer(i) => night.loader.takes(&night.answers, i),
+        Event::Asks | Event::Discovery => night.asks(),
+        Event::Stranger(i) => night.stranger(i),
+        Event::Hears(i) => night.hears(i),
+        Event::Fresh => fresh(&mut night.loader),
+        Event::Ends(end) => night.ends(end),
     }
-}
-
-// The answer to datagram i comes to the sender. With an answer to no message the oldest is lent.
-fn back(mut night: Night, i: u32) -> Night {
-    let answers = night.answers;
-    let lent = if i < 5 { i } else { night.done as u32 };
-    let message = messages::compose(night.life, night.first, lent);
-    let taken = loader::take(night.sender, message, channel_run::of(answers, i));
-    tell_all(night.life, night.first, answers, night.done, taken.ended);
-    let s = taken.sender;
-    night.sender = s;
-    night.done = ((night.done as u32 + taken.ended as u32) % 256) as u8;
-    night
-}
-
-// How far a life came that began.
-fn say_part(first: u32, offered: u32, carried: u32, finished: u32) {
-    channel_run::numbers(
-        b": began with tag 
-, offered 
-, carried out 
-, finished ",
-        &[first, offered, carried, finished],
-    );
-}
-
-// The number of a life, and how far it came.
-fn say_life(night: Night) {
-    show::number(b"", night.life as u64);
-    let s = night.sender;
-    if s.next > 15 {
-        show::say(b": did not begin");
-        return;
-    }
-    let done = night.done as u32;
-    say_part(
-        night.first,
-        done + s.waiting as u32,
-        night.carried as u32,
-        done,
-    );
-}
-
-// How it ended, and the memory that it leaves.
-fn say_end(how: u32, memory: [u32; 3]) {
-    show::line(
-        b"; restart; memory
-; reset of the controller; memory
-; the night is over; memory",
-        how as usize,
-    );
-    show::say_words(&memory);
-}
-
-// The life is over, and the next finds what it left. A reset: the record is fresh, and the other buffers hold
-// something else.
-fn ends(night: Night, how: u32) -> Night {
-    say_life(night);
-    let memory = night.memory;
-    say_end(how, memory);
-    let life = night.life % 256 + 1;
-    if how == 1 {
-        return begins(life, Controller::fresh(7), memory);
-    }
-    let controller = night.controller;
-    begins(life, controller, memory)
-}
-
-fn play(night: Night, kind: u8, i: u32) -> Night {
-    match kind {
-        b'o' => offers(night, i),
-        b'a' => late(night, i),
-        b's' => late(sends(night, i), i),
-        b'b' => back(night, i),
-        b'q' | b'd' => asks(night, i),
-        b'x' => stranger(night, i),
-        b'h' => hears(night, i),
-        b'f' => fresh(night),
-        _ => ends(night, i),
-    }
-}
-
-// An event of the night.
-fn step(night: Night, t: u32) -> Night {
-    let event = script::nth(t);
-    script::say(event.kind, event.i);
-    play(night, event.kind, event.i)
 }
 
 // Last summer's words stand in memory.
 fn main() {
-    let mut night = begins(1, Controller::fresh(0), [0x51, 0x52, 0x53]);
-    let mut t = 0;
-    while t < script::EVENTS {
-        night = step(night, t);
-        t += 1;
+    let mut night = Night::new(Life::new(1), [0x51, 0x52, 0x53]);
+    for event in script::NIGHT.split_whitespace().filter_map(Event::read) {
+        event.say();
+        play(&mut night, event);
     }
 }

@@ -1,25 +1,17 @@
 // The messages, by life and number, tagged from the first tag of the life on.
 use building::asked::Asked;
 use channel_run::Bytes;
+use header::Kind;
 
-// The twelfth life's first message reads; all others write.
-fn reads(n: u32, i: u32) -> bool {
-    if i != 0 {
-        return false;
-    }
-    n == 12
-}
-
-// Message i of life n writes 100 n + i (hexadecimal) to word i modulo 3, or reads all three words. The count is of a
-// read alone.
+// Message i of life n writes 100 n + i (hexadecimal) to word i modulo 3; the twelfth life's first message reads all
+// three words. The count is of a read alone.
 pub(crate) fn compose(n: u32, first: u32, i: u32) -> Bytes {
-    let kind = if reads(n, i) {
-        channel_run::READ
-    } else {
-        channel_run::WRITE
+    let kind = match (n, i) {
+        (12, 0) => Kind::Read,
+        _ => Kind::Write,
     };
     let asked = Asked {
-        address: (4 * (i % 3)) as u64,
+        address: u64::from(4 * (i % 3)),
         first: 15,
         last: 0,
         count: 3,

@@ -7,53 +7,10 @@
 //   h5  the last answer to 5 comes to the loader, which takes it for that to its own discovery; h6, h7: that to 6, 7
 //   e0  a restart ends the life, e1 a reset of the controller; e2 the night is over
 // "Comes" alone is: to the controller. What never comes is lost.
+use channel_run::night::End;
 use channel_run::script;
-use channel_run::script::Event;
 
-// All events of the night.
-pub(crate) const EVENTS: u32 = 143;
-
-// The line that says what an event is called.
-fn line_of(kind: u8) -> usize {
-    match kind {
-        b'o' => 0,
-        b'a' => 1,
-        b's' => 2,
-        b'b' => 3,
-        b'q' => 4,
-        b'd' => 5,
-        b'x' => 6,
-        b'h' => 7,
-        b'f' => 8,
-        _ => 9,
-    }
-}
-
-// What an event is called, and the number of its datagram, where it has one.
-pub(crate) fn say(kind: u8, i: u32) {
-    let line = line_of(kind);
-    show::line(
-        b"  offer 
-  comes 
-  again, comes 
-  answer 
-  asks 
-  discovery, comes 
-  stranger asks 
-  hears 
-  begins fresh
-life ",
-        line,
-    );
-    if line < 8 {
-        show::number(b"", i as u64);
-    }
-}
-
-// An event of the night, counted from 0.
-pub(crate) fn nth(t: u32) -> Event {
-    script::read_at(
-        b"f0 o0 o1 o2 o3 a0 a2 a1 a0 b0 e0
+pub(crate) const NIGHT: &str = "f0 o0 o1 o2 o3 a0 a2 a1 a0 b0 e0
 x7 x6 x7 e0
 q5 x7 x6 d5 e1
 f0 o0 o1 o2 o3 a1 a0 a1 a3 a0 e0
@@ -64,7 +21,55 @@ q5 h5 o0 o1 o2 o3 a3 a2 a2 e0
 q5 h5 o0 o1 o2 o3 s0 a1 b0 o4 a0 a2 a3 a4 b4 b3 b2 b1 e0
 q5 x6 q5 x7 d5 h7 h6 e0
 q5 h5 o0 o1 o2 o3 a1 a0 a1 a2 a3 a2 b1 b3 e0
-q5 h5 o0 o1 o2 o3 a2 a0 a1 a3 s2 a3 a0 b0 b0 o4 a4 b4 b3 b2 b1 e2",
-        3 * t as usize,
-    )
+q5 h5 o0 o1 o2 o3 a2 a0 a1 a3 s2 a3 a0 b0 b0 o4 a4 b4 b3 b2 b1 e2";
+
+// An event, with the number of its message or its datagram.
+#[derive(Clone, Copy)]
+pub(crate) enum Event {
+    Offer(u32),
+    Comes(u32),
+    Again(u32),
+    Answer(u32),
+    Asks,
+    Discovery,
+    Stranger(u32),
+    Hears(u32),
+    Fresh,
+    Ends(End),
+}
+
+impl Event {
+    // The event of a word, where it is one.
+    pub(crate) fn read(word: &str) -> Option<Event> {
+        let (letter, i) = script::read(word.as_bytes())?;
+        match letter {
+            b'o' => Some(Event::Offer(i)),
+            b'a' => Some(Event::Comes(i)),
+            b's' => Some(Event::Again(i)),
+            b'b' => Some(Event::Answer(i)),
+            b'q' => Some(Event::Asks),
+            b'd' => Some(Event::Discovery),
+            b'x' => Some(Event::Stranger(i)),
+            b'h' => Some(Event::Hears(i)),
+            b'f' => Some(Event::Fresh),
+            b'e' => Some(Event::Ends(End::of(i))),
+            _ => None,
+        }
+    }
+
+    // What it is called, and its number.
+    pub(crate) fn say(self) {
+        match self {
+            Event::Offer(i) => show::number(b"  offer ", u64::from(i)),
+            Event::Comes(i) => show::number(b"  comes ", u64::from(i)),
+            Event::Again(i) => show::number(b"  again, comes ", u64::from(i)),
+            Event::Answer(i) => show::number(b"  answer ", u64::from(i)),
+            Event::Asks => show::say(b"  asks 5"),
+            Event::Discovery => show::say(b"  discovery, comes 5"),
+            Event::Stranger(i) => show::number(b"  stranger asks ", u64::from(i)),
+            Event::Hears(i) => show::number(b"  hears ", u64::from(i)),
+            Event::Fresh => show::say(b"  begins fresh"),
+            Event::Ends(_) => show::say(b"life "),
+        }
+    }
 }

@@ -9,229 +9,159 @@
 // whose it is. Wherever the mark is 18, which is 24, all rows under it are of one life.
 #![tactic(auto)]
 
-use channel_run::controller::Controller;
-use channel_run::{Bytes, controller, loader};
+use channel_run::night::{End, Loader, Night};
+use channel_run::{Bytes, Channel, loader};
 use header::limits;
 use initiator::sender::Sender;
-use message::discovery;
+use layout::Stage;
 use table::attempt;
-use table::attempt::Attempt;
+use table::attempt::{Attempt, Next};
+use tags::record::TagRecord;
 
-mod came;
 mod rows;
 mod script;
+
+use script::Event;
 
 // The table stands behind 16 words, and one word is behind it.
 const START: u64 = 64;
 
 const ROOM: u64 = 194;
 
+// The loader of a life: the life's number, and its attempt.
 #[derive(Clone, Copy)]
-struct Night {
-    life: u32,
-    // the loader: its sender, and what its attempt came to
-    sender: Sender,
-    came: u8,
-    row: u8,
-    // the channel: what was sent of messages 0 to 3; the last answer to each, to the loader's discovery, which is 5,
-    // and to a stranger's, 6
-    requests: [Bytes; 8],
-    answers: [Bytes; 8],
-    controller: Controller,
-    memory: [u32; 210],
+struct Life {
+    number: u32,
+    attempt: Attempt,
 }
 
-// A life before it has begun: the sender is one that 37 stops, and nothing is in the channel.
-fn begins(life: u32, controller: Controller, memory: [u32; 210]) -> Night {
-    let moved = Sender::discovered(b"");
-    let sender = moved.sender;
-    Night {
-        life,
-        sender,
-        came: 0,
-        row: 0,
-        requests: [Bytes::none(); 8],
-        answers: [Bytes::none(); 8],
-        controller,
-        memory,
+// The number of the message that comes next; 4 where none does.
+fn number(next: Next) -> u32 {
+    match next {
+        Next::Send(stage) => stage as u32,
+        Next::Done | Next::Ended(_) => 4,
     }
 }
 
-// The attempt of a life.
-fn attempt_of(sender: Sender, came: u8, row: u8) -> Attempt {
-    Attempt {
-        sender,
-        next: came::next_of(came, row),
+// What an attempt came to, in words.
+fn say(next: Next) {
+    match next {
+        Next::Send(Stage::Clear) => show::say(b", clearing"),
+        Next::Send(Stage::Rows) => show::say(b", writing the rows"),
+        Next::Send(Stage::Back) => show::say(b", reading them back"),
+        Next::Send(Stage::Mark) => show::say(b", setting the mark"),
+        Next::Done => show::say(b", done"),
+        Next::Ended(row) => show::number(b", ended with ", u64::from(row)),
     }
 }
 
-// The next message of the attempt is given, and sent.
-fn gives(mut night: Night) -> Night {
-    let mut bytes = [0u8; limits::LIMIT_BYTES];
-    let words = rows::words_of(night.life);
-    let attempt = attempt_of(night.sender, night.came, night.row);
-    let made = attempt::message(&mut bytes, attempt, START, ROOM, &words);
-    let n = made.length;
-    show::number(b": refusal ", made.refusal as u64);
-    show::number(b", bytes ", n as u64);
-    show::say(b"\n");
-    let then = made.attempt;
-    let s = then.sender;
-    night.sender = s;
-    let before = night.requests;
-    let sent = loader::send(s, Bytes { bytes, n });
-    let requests = channel_run::with(before, night.came as u32, sent);
-    night.requests = requests;
-    night
+impl Life {
+    // Before it has begun.
+    fn new(number: u32) -> Life {
+        Life {
+            number,
+            attempt: Attempt::begin(Sender::discovered(b"").sender),
+        }
+    }
+
+    // The next message of the attempt is given, and sent.
+    fn gives(&mut self, requests: &mut Channel) {
+        let mut bytes = [0; limits::LIMIT_BYTES];
+        let words = rows::words_of(self.number);
+        let made = attempt::message(&mut bytes, self.attempt, START, ROOM, &words);
+        show::number(b": refusal ", u64::from(made.refusal));
+        show::number(b", bytes ", made.length as u64);
+        show::say(b"\n");
+        self.attempt = made.attempt;
+        let message = Bytes {
+            bytes,
+            n: made.length,
+        };
+        requests.put(
+            number(self.attempt.next),
+            loader::send(self.attempt.sender, &message),
+        );
+    }
+
+    // This answer comes to the loader, which takes it for one to the message that waits.
+    fn takes(&mut self, requests: &Channel, answer: &Bytes) {
+        let taken = attempt::take(
+            self.attempt,
+            requests.get(number(self.attempt.next)).as_slice(),
+            answer.as_slice(),
+            &rows::words_of(self.number),
+        );
+        self.attempt = taken.attempt;
+        show::number(b": refusal ", u64::from(taken.refusal.number));
+        say(self.attempt.next);
+        show::say(b"\n");
+    }
+
+    // What its attempt came to.
+    fn say(&self) {
+        show::number(b"", u64::from(self.number));
+        if self.attempt.sender.next > 15 {
+            show::say(b", did not begin");
+        } else {
+            say(self.attempt.next);
+        }
+    }
 }
 
-// Datagram i comes to the controller.
-fn comes(mut night: Night, i: u32, datagram: &[u8]) -> Night {
-    let mut memory = night.memory;
-    let arrived = controller::serve(&mut memory, night.controller, datagram);
-    show::say(b"\n");
-    night.memory = memory;
-    let then = arrived.controller;
-    night.controller = then;
-    let before = night.answers;
-    let answers = channel_run::with(before, i, arrived.answer);
-    night.answers = answers;
-    night
-}
+impl Loader<210> for Life {
+    fn next(&self) -> Life {
+        Life::new(self.number % 256 + 1)
+    }
 
-// What was sent of message i comes.
-fn late(night: Night, i: u32) -> Night {
-    let requests = night.requests;
-    let request = channel_run::of(requests, i);
-    let bytes = request.bytes;
-    comes(night, i, show::front(&bytes, request.n))
-}
+    fn begins(&mut self, sender: Sender) {
+        self.attempt = Attempt::begin(sender);
+    }
 
-// The loader asks, or its discovery comes again.
-fn asks(night: Night) -> Night {
-    let datagram = discovery::bytes();
-    comes(night, 5, &datagram)
-}
+    fn arrived(&mut self, _before: TagRecord, _then: TagRecord, _answer: &Bytes) {
+        show::say(b"\n");
+    }
 
-// A stranger reads two words, by a discovery with tag 1.
-fn stranger(night: Night) -> Night {
-    let datagram = [161u8, 0, 2, 128, 0, 0, 0, 0];
-    comes(night, 6, &datagram)
+    // Of the memory, the mark and the rows.
+    fn say_end(&self, end: End, memory: &[u32; 210]) {
+        self.say();
+        show::say(end.label());
+        show::hex(b"; mark ", memory[208]);
+        show::say(b"\n");
+        rows::say(memory);
+    }
 }
 
 // The loader begins as one of a fresh pair.
-fn fresh(mut night: Night) -> Night {
-    let s = Sender::fresh();
-    night.sender = s;
+fn fresh(life: &mut Life) {
+    life.begins(Sender::fresh());
     show::say(b"\n");
-    night
-}
-
-// The answer to the loader's discovery comes to it.
-fn hears(mut night: Night) -> Night {
-    let answers = night.answers;
-    let s = loader::hear(channel_run::of(answers, 5));
-    night.sender = s;
-    night
-}
-
-// The answer to datagram i comes to the loader, which takes it for one to the message that waits.
-fn back(mut night: Night, i: u32) -> Night {
-    let requests = night.requests;
-    let lent = channel_run::of(requests, night.came as u32);
-    let message = lent.bytes;
-    let answers = night.answers;
-    let came = channel_run::of(answers, i);
-    let answer = came.bytes;
-    let words = rows::words_of(night.life);
-    let taken = attempt::take(
-        attempt_of(night.sender, night.came, night.row),
-        show::front(&message, lent.n),
-        show::front(&answer, came.n),
-        &words,
-    );
-    let refusal = taken.refusal;
-    let then = taken.attempt;
-    let s = then.sender;
-    let next = then.next;
-    night.sender = s;
-    night.came = came::number(next);
-    night.row = came::row(next);
-    show::number(b": refusal ", refusal.number as u64);
-    came::say(night.came, night.row);
-    show::say(b"\n");
-    night
 }
 
 // A hand spoils the last word of row 7.
-fn spoils(mut night: Night) -> Night {
-    let mut memory = night.memory;
+fn spoils(memory: &mut [u32; 210]) {
     memory[71] = 0;
-    night.memory = memory;
     show::say(b"\n");
-    night
 }
 
-// The number of a life, and what its attempt came to.
-fn say_life(night: Night) {
-    show::number(b"", night.life as u64);
-    let s = night.sender;
-    if s.next > 15 {
-        show::say(b", did not begin");
-        return;
+fn play(night: &mut Night<Life, 210>, event: Event) {
+    match event {
+        Event::Message => night.loader.gives(&mut night.requests),
+        Event::Comes(i) => night.late(i),
+        Event::Answer(i) => night.loader.takes(&night.requests, &night.answers.get(i)),
+        Event::Asks => night.asks(),
+        Event::Stranger(i) => night.stranger(i),
+        Event::Hears(i) => night.hears(i),
+        Event::Fresh => fresh(&mut night.loader),
+        Event::Spoils => spoils(&mut night.memory),
+        Event::Ends(end) => night.ends(end),
     }
-    came::say(night.came, night.row);
-}
-
-// The life is over, and the next finds what it left. A reset: the record is fresh, and the other buffers hold
-// something else.
-fn ends(night: Night, how: u32) -> Night {
-    say_life(night);
-    show::line(
-        b"; restart
-; reset of the controller
-; the night is over",
-        how as usize,
-    );
-    let memory = night.memory;
-    show::hex(b"; mark ", memory[208]);
-    show::say(b"\n");
-    rows::say(&memory);
-    let life = night.life % 256 + 1;
-    if how == 1 {
-        return begins(life, Controller::fresh(7), memory);
-    }
-    let controller = night.controller;
-    begins(life, controller, memory)
-}
-
-fn play(night: Night, kind: u8, i: u32) -> Night {
-    match kind {
-        b'm' => gives(night),
-        b'a' => late(night, i),
-        b'b' => back(night, i),
-        b'q' => asks(night),
-        b'x' => stranger(night),
-        b'h' => hears(night),
-        b'f' => fresh(night),
-        b'z' => spoils(night),
-        _ => ends(night, i),
-    }
-}
-
-// An event of the night.
-fn step(night: Night, t: u32) -> Night {
-    let event = script::nth(t);
-    script::say(event.kind, event.i);
-    play(night, event.kind, event.i)
 }
 
 // Last summer's words stand in memory, and the mark is not 24.
 fn main() {
-    let mut night = begins(1, Controller::fresh(0), [0x51; 210]);
-    let mut t = 0;
-    while t < script::EVENTS {
-        night = step(night, t);
-        t += 1;
+    let mut night = Night::new(Life::new(1), [0x51; 210]);
+    for event in script::NIGHT.split_whitespace().filter_map(Event::read) {
+        event.say();
+        play(&mut night, event);
     }
 }

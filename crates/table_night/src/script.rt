@@ -5,52 +5,10 @@
 //   h5  the answer to its own comes to the loader   z7  a hand spoils the last word of row 7
 //   e0  a restart ends the life, e1 a reset of the controller; e2 the night is over
 // "Comes" alone is: to the controller. Messages 0 to 3 clear, write, read back, set the mark; what never comes is lost.
+use channel_run::night::End;
 use channel_run::script;
-use channel_run::script::Event;
 
-// All events of the night.
-pub(crate) const EVENTS: u32 = 132;
-
-// The line that says what an event is called.
-fn line_of(kind: u8) -> usize {
-    match kind {
-        b'm' => 0,
-        b'a' => 1,
-        b'b' => 2,
-        b'q' => 3,
-        b'x' => 4,
-        b'h' => 5,
-        b'f' => 6,
-        b'z' => 7,
-        _ => 8,
-    }
-}
-
-// What an event is called, and the number of its message, where it has one.
-pub(crate) fn say(kind: u8, i: u32) {
-    let line = line_of(kind);
-    show::line(
-        b"  message
-  comes 
-  answer 
-  asks
-  stranger asks
-  hears
-  begins fresh
-  a hand spoils row 7
-life ",
-        line,
-    );
-    match line {
-        1..=2 => show::number(b"", i as u64),
-        _ => {}
-    }
-}
-
-// An event of the night, counted from 0.
-pub(crate) fn nth(t: u32) -> Event {
-    script::read_at(
-        b"f0 m0 e0
+pub(crate) const NIGHT: &str = "f0 m0 e0
 x6 q5 e0
 q5 h5 m0 a0 a0 e0
 q5 h5 m0 a0 b6 b5 b0 b0 m1 a1 a0 e1
@@ -61,7 +19,52 @@ e0
 q5 h5 m0 a0 b0 m1 a0 e0
 q5 h5 m0 a0 b0 m1 a1 b1 m2 e0
 q5 h5 m0 a0 b0 m1 a1 b1 z7 m2 a2 b2 m3 e0
-q5 h5 m0 a0 a0 b0 m1 a0 a1 a0 b0 b1 m2 a2 a1 b1 b2 m3 a2 a3 a3 b2 b3 b3 m3 e2",
-        3 * t as usize,
-    )
+q5 h5 m0 a0 a0 b0 m1 a0 a1 a0 b0 b1 m2 a2 a1 b1 b2 m3 a2 a3 a3 b2 b3 b3 m3 e2";
+
+// An event, with the number of its message or its datagram.
+#[derive(Clone, Copy)]
+pub(crate) enum Event {
+    Message,
+    Comes(u32),
+    Answer(u32),
+    Asks,
+    Stranger(u32),
+    Hears(u32),
+    Fresh,
+    Spoils,
+    Ends(End),
+}
+
+impl Event {
+    // The event of a word, where it is one.
+    pub(crate) fn read(word: &str) -> Option<Event> {
+        let (letter, i) = script::read(word.as_bytes())?;
+        match letter {
+            b'm' => Some(Event::Message),
+            b'a' => Some(Event::Comes(i)),
+            b'b' => Some(Event::Answer(i)),
+            b'q' => Some(Event::Asks),
+            b'x' => Some(Event::Stranger(i)),
+            b'h' => Some(Event::Hears(i)),
+            b'f' => Some(Event::Fresh),
+            b'z' => Some(Event::Spoils),
+            b'e' => Some(Event::Ends(End::of(i))),
+            _ => None,
+        }
+    }
+
+    // What it is called, and the number of a message that comes or is answered.
+    pub(crate) fn say(self) {
+        match self {
+            Event::Message => show::say(b"  message"),
+            Event::Comes(i) => show::number(b"  comes ", u64::from(i)),
+            Event::Answer(i) => show::number(b"  answer ", u64::from(i)),
+            Event::Asks => show::say(b"  asks"),
+            Event::Stranger(_) => show::say(b"  stranger asks"),
+            Event::Hears(_) => show::say(b"  hears"),
+            Event::Fresh => show::say(b"  begins fresh"),
+            Event::Spoils => show::say(b"  a hand spoils row 7"),
+            Event::Ends(_) => show::say(b"life "),
+        }
+    }
 }

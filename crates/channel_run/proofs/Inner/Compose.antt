@@ -16,10 +16,10 @@ use Rattle.channel_run.specs.Bytes.{first_of, zeros, no_bytes, composed}
 abbrev pub closed_in : List ℕ → ℕ → Bytes
 closed_in out words = cond (ltb limit words) no_bytes (first_of out (4 * words))
 
-pub composed-is : (kind tag : ℕ) (asked : Asked) (word : ℕ) {b a c : Built} {one two : List ℕ}
-    → b ≡ begun (length zeros) kind tag false false
+pub composed-is : (kind tag : ℕ) (asked : Asked) (word : ℕ) {n : ℕ} {b a c : Built} {one two : List ℕ}
+    → n ≡ kind → b ≡ begun (length zeros) n tag false false
     → a ≡ added zeros b.building asked (word ∷ []) → one ≡ added_to zeros b.building asked (word ∷ [])
     → c ≡ closed one a.building → two ≡ closed_to one a.building
     → closed_in two c.building.words ≡ composed kind tag asked word
 unfolding composed
-composed-is kind tag asked word begins adds one closes two = rw (two, closes, one, adds, begins) refl
+composed-is kind tag asked word named begins adds one closes two = rw (two, closes, one, adds, begins, named) refl

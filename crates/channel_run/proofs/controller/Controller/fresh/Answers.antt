@@ -1,5 +1,5 @@
 -- `channel_run::controller::Controller::fresh` meets its contract: the record is fresh. Assumes nothing.
-use Rattle.std.proofs.Common.{◌*◌, ap}
+use Rattle.std.proofs.Common.{ℕ, ◌*◌, ◌∙◌, ap}
 use Rattle.std.proofs.Math.ListN.{replicate}
 use Rattle.header.specs.Limits.{limit, limit_bytes}
 use Rattle.tags.specs.declared.record.TagRecord.{TagRecord}
@@ -10,9 +10,9 @@ use Rattle.channel_run.proofs.controller.Controller.fresh.Goals as goal
 pub returns : goal.returns
 returns c =
     let byte = c.args.byte in
-    let with : TagRecord → Controller = λ t. record {
-      stored = replicate (places * limit) (16843009 * byte);
+    let with : ℕ → TagRecord → Controller = λ word t. record {
+      stored = replicate (places * limit) (16843009 * word);
       kept = replicate (places * limit_bytes) byte;
       tags = t;
     } in
-    ap with c.fresh.ensures
+    ap (λ (word : ℕ). with word c.fresh.result) c.from.ensures ∙ ap (with byte) c.fresh.ensures

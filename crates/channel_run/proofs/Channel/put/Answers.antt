@@ -1,8 +1,8 @@
--- `channel_run::with` meets its contract: one place of eight, or none. Assumes nothing.
+-- `channel_run::Channel::put` meets its contract: one place of eight, or none. Assumes nothing.
 use Rattle.std.proofs.Common.{refl, arith}
 use borrow.Author.Tests.{eq-eqb, ne_eqb}
 use Rattle.channel_run.specs.Bytes.{placed}
-use Rattle.channel_run.proofs.with.Goals as goal
+use Rattle.channel_run.proofs.Channel.put.Goals as goal
 
 pub returns-then-datagram-gt0 : goal.returns-then-datagram-gt0
 unfolding placed

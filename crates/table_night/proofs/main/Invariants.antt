@@ -1,9 +1,0 @@
--- `table_night::main` meets its contract: the events left fall. Assumes nothing.
-use Rattle.std.proofs.Common.{◌-◌}
-use Rattle.table_night.proofs.main.Given as goal
-
-abbrev pub invariant-loop-t : goal.invariant-loop-t
-invariant-loop-t l = Unit {0}
-
-abbrev pub decreases-loop-t : goal.decreases-loop-t
-decreases-loop-t l = 132 - l.t
