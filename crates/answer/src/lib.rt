@@ -208,7 +208,7 @@ pub fn head_refusal(byte0: u32, answer: &[u8]) -> Refusal
     if !limits::length_ok(answer.len()) {
         return Refusal::of(Refusal::ANSWER_LENGTH);
     }
-    if word::from_byte(answer[0]) != answer_byte(byte0) {
+    if u32::from(answer[0]) != answer_byte(byte0) {
         return Refusal::of(Refusal::ANSWER_BYTE_0);
     }
     Refusal::of(Refusal::NONE)

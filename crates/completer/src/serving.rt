@@ -158,7 +158,7 @@ fn act(
         (lent memory.old stored.old kept.old tags) output.old
         datagram.now }
 {
-    let byte0 = word::from_byte(datagram[0]);
+    let byte0 = u32::from(datagram[0]);
     let mark = record::mark(tags);
     let place = record::place(header::tag(byte0));
     keep_request(kept, place, datagram, keep);

@@ -5,7 +5,6 @@ use Rattle.determined.proofs.Equal.{firsts, one_of, first_of, two-of}
 pub in-word : InWord
 in-word =
     record {
-      from_byte = λ M 𝓤 𝓛 mem run κs a g one other. first_of 𝓤;
       word_at = λ M 𝓤 𝓛 mem run κs a g one other. one_of 𝓤;
       put_word = λ M 𝓤 𝓛 mem run κs a g one other. one_of 𝓤;
       merge = λ M 𝓤 𝓛 mem run κs a g one other. one_of 𝓤;
@@ -75,7 +74,6 @@ in_memory =
     record {
       outside = λ M 𝓤 𝓛 mem run κs a g one other. one_of 𝓤;
       store = λ M 𝓤 𝓛 mem run κs a g one other. one_of 𝓤;
-      store_words = λ M 𝓤 𝓛 mem run κs a g one other. one_of 𝓤;
       store-all = λ M 𝓤 𝓛 mem run κs a g one other. two-of 𝓤;
     }
 

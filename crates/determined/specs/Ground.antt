@@ -2,7 +2,6 @@
 -- function is lent something that it can change, what that then holds stands beside what is returned, or alone where
 -- nothing is returned. Assumes nothing.
 use Rattle.determined.specs.Public.{Determined, beside}
-use Rattle.word.specs.contracts.from_byte as FromByte
 use Rattle.word.specs.contracts.word_at as WordAt
 use Rattle.word.specs.contracts.put_word as PutWord
 use Rattle.word.specs.contracts.merge as Merge
@@ -52,7 +51,6 @@ use Rattle.answer.specs.contracts.head_refusal as HeadRefusal
 use Rattle.answer.specs.contracts.refusal_of as RefusalOf
 use Rattle.memory.specs.contracts.moves.outside as Outside
 use Rattle.memory.specs.contracts.moves.store as Store
-use Rattle.memory.specs.contracts.moves.store_words as StoreWords
 use Rattle.memory.specs.contracts.moves.store_all as StoreAll
 use Rattle.carrying.specs.contracts.carry.carry as Carry
 use Rattle.tags.specs.contracts.record.TagRecord.fresh as FreshTags
@@ -67,7 +65,6 @@ use Rattle.tags.specs.contracts.rule.rule as Rule
 
 -- `word`
 pub record InWord : Type 2 where
-  pub from_byte : Determined FromByte.ended (λ M 𝓤. FromByte.clauses) (λ κs r e. r)
   pub word_at : Determined WordAt.ended (λ M 𝓤. WordAt.clauses) (λ κs r e. r)
   pub put_word : Determined PutWord.ended (λ M 𝓤. PutWord.clauses) (λ κs r e. e.0.now)
   pub merge : Determined Merge.ended (λ M 𝓤. Merge.clauses) (λ κs r e. r)
@@ -129,7 +126,6 @@ pub record InAnswer : Type 2 where
 pub record InMemory : Type 2 where
   pub outside : Determined Outside.ended (λ M 𝓤. Outside.clauses) (λ κs r e. r)
   pub store : Determined Store.ended (λ M 𝓤. Store.clauses) (λ κs r e. e.0.now)
-  pub store_words : Determined StoreWords.ended (λ M 𝓤. StoreWords.clauses) (λ κs r e. e.0.now)
   pub store-all : Determined StoreAll.ended (λ M 𝓤. StoreAll.clauses) (λ κs r e. beside r e.0.now)
 
 -- `carrying`

@@ -10,10 +10,7 @@ pub fn outside(size: usize, address: u64, count: usize) -> bool
     requires { count < 4096 }
     ensures { result ≡ outside size address count }
 {
-    if address % 4 != 0 {
-        return true;
-    }
-    (size as u64) < address / 4 + count as u64
+    address % 4 != 0 || (size as u64) < address / 4 + count as u64
 }
 
 // One word, under byte enables.
@@ -24,39 +21,8 @@ pub fn store(memory: &mut [u32], at: usize, w: u32, enables: u32)
     memory[at] = word::merge(memory[at], w, enables);
 }
 
-// A write of two words or more, from word `at` on: a first and a last word are merged, what lies between is copied.
-pub fn store_words(
-    memory: &mut [u32],
-    at: usize,
-    datagram: &[u8],
-    from: usize,
-    count: usize,
-    byte1: u32,
-)
-    requires { (2 ≤ count)
-        × (count ≤ longest)
-        × (at + count ≤ length memory.old)
-        × (4 * (from + count) ≤ length datagram.now) }
-    ensures { memory.new
-        ≡ after_moves memory.old
-        (stores at (first_field byte1) (last_field byte1)
-        (take count (drop from (words_of datagram.now)))) }
-{
-    let between = count - 2;
-    let first = header::first_field(byte1);
-    store(memory, at, word::word_at(datagram, from), first);
-    word::run::get_words(memory, at + 1, datagram, from + 1, between);
-    let last = header::last_field(byte1);
-    store(
-        memory,
-        at + 1 + between,
-        word::word_at(datagram, from + 1 + between),
-        last,
-    );
-}
-
-// A write's words, from word `at` on. Gives where the next header stands, which for one word does not wait for the
-// count.
+// A write's words, from word `at` on: a first and a last word are merged, what lies between is copied. Gives where the
+// next header stands, which for one word does not wait for the count.
 pub fn store_all(
     memory: &mut [u32],
     at: usize,
@@ -74,15 +40,22 @@ pub fn store_all(
         (stores at (first_field byte1) (last_field byte1)
         (take count (drop from (words_of datagram.now))))) }
 {
+    store(
+        memory,
+        at,
+        word::word_at(datagram, from),
+        header::first_field(byte1),
+    );
     if count == 1 {
-        store(
-            memory,
-            at,
-            word::word_at(datagram, from),
-            header::first_field(byte1),
-        );
         return from + 1;
     }
-    store_words(memory, at, datagram, from, count, byte1);
+    let between = count - 2;
+    word::run::get_words(memory, at + 1, datagram, from + 1, between);
+    store(
+        memory,
+        at + 1 + between,
+        word::word_at(datagram, from + 1 + between),
+        header::last_field(byte1),
+    );
     from + count
 }

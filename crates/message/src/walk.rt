@@ -132,5 +132,5 @@ pub fn walk(datagram: &[u8]) -> Result<u32, Refusal>
     ensures { result ≡ given (λ (r : Request). r.byte0) (read datagram.now) }
 {
     check(limits::length_ok(datagram.len()), Refusal::LENGTH, 0)?;
-    walk_on(datagram, word::from_byte(datagram[0]))
+    walk_on(datagram, u32::from(datagram[0]))
 }

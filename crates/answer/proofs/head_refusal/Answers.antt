@@ -14,14 +14,14 @@ returns-then-not-length_ok c = rw (c.of.ensures, flag_off c.length_ok.ensures c.
 pub bounds-answer-0 : goal.bounds-answer-0
 bounds-answer-0 c = omega (arith, (right _ (flag-on c.length_ok.ensures c.if-not-length_ok.false)).some)
 
-pub returns-then-from_byte-answer_byte : goal.returns-then-from_byte-answer_byte
+pub returns-then-from-answer_byte : goal.returns-then-from-answer_byte
 unfolding head_fault
-returns-then-from_byte-answer_byte c =
-    let n = ne_eqb _ _ (λ q. c.if-from_byte-answer_byte.true (c.from_byte.ensures.value ∙ q ∙ sym c.answer_byte.ensures.value)) in
-    rw (c.of-then-from_byte-answer_byte.ensures, flag-on c.length_ok.ensures c.if-not-length_ok.false, n)
+returns-then-from-answer_byte c =
+    let n = ne_eqb _ _ (λ q. c.if-from-answer_byte.true (c.from.ensures ∙ q ∙ sym c.answer_byte.ensures.value)) in
+    rw (c.of-then-from-answer_byte.ensures, flag-on c.length_ok.ensures c.if-not-length_ok.false, n)
 
 pub returns : goal.returns
 unfolding head_fault
 returns c =
-    let e = eq-eqb _ _ (sym c.from_byte.ensures.value ∙ c.if-from_byte-answer_byte.false ∙ c.answer_byte.ensures.value) in
+    let e = eq-eqb _ _ (sym c.from.ensures ∙ c.if-from-answer_byte.false ∙ c.answer_byte.ensures.value) in
     rw (c.of-2.ensures, flag-on c.length_ok.ensures c.if-not-length_ok.false, e)

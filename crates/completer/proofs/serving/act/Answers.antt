@@ -20,7 +20,7 @@ pub carry-n-requires : goal.carry-n-requires
 carry-n-requires c =
     let a = c.args in (
       c.requires.0,
-      c.from_byte-byte0.ensures.value ∙ (read_first a.datagram.now _ c.requires.0).1,
+      c.from-byte0.ensures ∙ (read_first a.datagram.now _ c.requires.0).1,
       record { stored = place-room a.stored.now c.place-place.result c.place-place.ensures.below c.requires.2; output = c.requires.3 },
     )
 
@@ -34,7 +34,7 @@ overflow_cast-result-2 c =
 pub returns : goal.returns
 returns c =
     let a = c.args in
-    let first = c.from_byte-byte0.ensures.value ∙ (read_first a.datagram.now _ c.requires.0).1 in
+    let first = c.from-byte0.ensures ∙ (read_first a.datagram.now _ c.requires.0).1 in
     let size : limit * c.place-place.result + limit - limit * c.place-place.result ≡ limit = omega arith in
     rw c.of.ensures
     (acted a.stored.now a.kept.now a.datagram.now a.tags a.keep first c.mark-mark.ensures c.tag.ensures.value c.place-place.ensures.value refl size c.requires.2

@@ -19,4 +19,4 @@ walk_on-requires c = (right _ (flag-on c.length_ok.ensures (check-passed _ _ c.i
 
 pub returns : goal.returns
 returns c =
-    c.walk_on.ensures ∙ walk-whole _ _ (flag-on c.length_ok.ensures (check-passed _ _ c.in_ok-check.ensures)) c.from_byte.ensures.value
+    c.walk_on.ensures ∙ walk-whole _ _ (flag-on c.length_ok.ensures (check-passed _ _ c.in_ok-check.ensures)) c.from.ensures
