@@ -2,19 +2,19 @@
 // whoever reads the records and writes the lines out needs to know no more.
 #![tactic(auto)]
 
-ghost use Rattle.std.specs.Prelude.{◌≤◌, ◌≡◌, length};
-ghost use Rattle.completer.specs.Controller.{lent, left};
+ghost use Rattle.std.specs.Prelude.{◌≤◌, ◌≡◌, true, length};
 ghost use Rattle.night.specs.Text.{tag_text, Wrote};
-ghost use Rattle.night.specs.Night.{record_bytes, after_record, whole_turn, turn_of, at_first};
+ghost use Rattle.night.specs.Night.{record_bytes, Serves, whole_turn, turn_of, at_first};
 ghost use Rattle.night.specs.Night.{controller_of, leaves, left_by};
 
 use completer::serving;
-use completer::serving::Served;
 use header::limits;
 use header::refusal::Refusal;
 use tags::record::TagRecord;
 
 mod text;
+
+pub use text::Line;
 
 // The bytes of a record: its length, and the most bytes of a message.
 pub const RECORD: usize = 4 + limits::LIMIT_BYTES;
@@ -43,102 +43,67 @@ impl Night {
             tags: TagRecord::fresh(),
         }
     }
-}
 
-// What a turn gives: the night then, whether records may follow, and how many bytes of the line it wrote.
-#[derive(Drop)]
-pub struct Turn {
-    pub night: Night,
-    pub more: bool,
-    pub length: usize,
-}
-
-// A whole record served.
-fn serve_record(
-    memory: &mut [u32],
-    stored: &mut [u32],
-    kept: &mut [u8],
-    output: &mut [u8],
-    tags: TagRecord,
-    got: &[u8],
-) -> Served
-    requires { record_bytes ≤ length got.now }
-    ensures { left result.refusal result.sent
-        (lent memory.new stored.new kept.new result.tags) output.new
-        ≡ after_record
-        (lent memory.old stored.old kept.old tags) output.old
-        got.now }
-{
-    let n = word::word_at(got, 0) as usize;
-    if n > limits::LIMIT_BYTES {
-        return Served {
-            refusal: Refusal::of(Refusal::LENGTH),
-            sent: 0,
-            tags,
-        };
+    // A whole record served: the bytes sent.
+    fn serve(&mut self, got: &[u8], output: &mut [u8]) -> Result<usize, Refusal>
+        requires { record_bytes ≤ length got.now }
+        ensures { Serves (controller_of self.old) output.old got.now result (controller_of self.new) output.new }
+    {
+        let n = word::word_at(got, 0) as usize;
+        if n > limits::LIMIT_BYTES {
+            return Err(Refusal::of(Refusal::LENGTH));
+        }
+        let served = serving::serve(
+            &mut self.memory,
+            &mut self.stored,
+            &mut self.kept,
+            output,
+            self.tags,
+            &got[4..4 + n],
+        );
+        self.tags = served.tags;
+        if served.refusal.number != Refusal::NONE {
+            return Err(served.refusal);
+        }
+        Ok(served.sent)
     }
-    let end = 4 + n;
-    serving::serve(memory, stored, kept, output, tags, &got[4..end])
-}
 
-// Record k, a whole one: served, and its line.
-fn whole(night: Night, k: u64, got: &[u8], line: &mut [u8; LINE]) -> Turn
-    requires { record_bytes ≤ length got.now }
-    ensures { leaves (controller_of result.night) result.more result.length line.new
-        ≡ left_by (whole_turn (controller_of night) k got.now) line.old }
-{
-    let mut memory = night.memory;
-    let mut stored = night.stored;
-    let mut kept = night.kept;
-    let mut output = [0u8; limits::LIMIT_BYTES];
-    let served = serve_record(
-        &mut memory,
-        &mut stored,
-        &mut kept,
-        &mut output,
-        night.tags,
-        got,
-    );
-    let length = text::told(line, k, served.refusal, served.sent / 4);
-    let tags = served.tags;
-    Turn {
-        night: Night {
-            memory,
-            stored,
-            kept,
-            tags,
-        },
-        more: true,
-        length,
+    // Record k, a whole one: served, and its line.
+    fn whole(&mut self, k: u64, got: &[u8], line: &mut Line)
+        requires { record_bytes ≤ length got.now }
+        ensures { leaves (controller_of self.new) true line.new.length line.new.bytes
+            ≡ left_by (whole_turn (controller_of self.old) k got.now) line.old.bytes }
+    {
+        let mut output = [0u8; limits::LIMIT_BYTES];
+        match self.serve(got, &mut output) {
+            Ok(sent) => line.sent(k, sent / 4),
+            Err(refusal) => line.refused(k, refusal),
+        }
     }
-}
 
-// A turn: what was got of record k, whatever its bytes and length. A whole record, or what begins with one, is served;
-// a shorter one is named as short and ends the night, and so does nothing. The line's other bytes stay.
-pub fn play(night: Night, k: u64, got: &[u8], line: &mut [u8; LINE]) -> Turn
-    ensures { leaves (controller_of result.night) result.more result.length line.new
-        ≡ left_by (turn_of (controller_of night) k got.now) line.old }
-{
-    if got.len() == 0 {
-        return Turn {
-            night,
-            more: false,
-            length: 0,
-        };
+    // A turn: what was got of record k, whatever its bytes and length, and whether records may follow. A whole record,
+    // or what begins with one, is served; a shorter one is named as short and ends the night, and so does nothing. The
+    // line's other bytes stay.
+    pub fn play(&mut self, k: u64, got: &[u8], line: &mut Line) -> bool
+        ensures { leaves (controller_of self.new) result line.new.length line.new.bytes
+            ≡ left_by (turn_of (controller_of self.old) k got.now) line.old.bytes }
+    {
+        if got.len() == 0 {
+            line.clear();
+            return false;
+        }
+        if got.len() < RECORD {
+            line.short(k);
+            return false;
+        }
+        self.whole(k, got, line);
+        true
     }
-    if got.len() < RECORD {
-        return Turn {
-            night,
-            more: false,
-            length: text::short(line, k),
-        };
-    }
-    whole(night, k, got, line)
-}
 
-// The last line of the night, and its length.
-pub fn last(night: Night, line: &mut [u8; LINE]) -> usize
-    ensures { Wrote line.old 0 (tag_text night.tags) result line.new }
-{
-    text::tag(line, night.tags)
+    // The last line of the night.
+    pub fn last(&self, line: &mut Line)
+        ensures { Wrote line.old.bytes 0 (tag_text self.now.tags) line.new.length line.new.bytes }
+    {
+        line.tag(self.tags);
+    }
 }

@@ -1,89 +1,122 @@
-// Lines of text, written into a lent buffer piece by piece.
-ghost use Rattle.std.specs.Prelude.{◌+◌, ◌≤◌, ◌++◌, length};
-ghost use Rattle.night.specs.Text.{most_digits, decimal, Sent, Refused, Short, line_of, text_of, tag_text, Wrote};
+// A line of text, written piece by piece, and the lines of a replay.
+ghost use Rattle.std.specs.Prelude.{◌≡◌, ◌+◌, ◌≤◌, ◌++◌, length, take};
+ghost use Rattle.night.specs.Text.{most_digits, decimal, Sent, Refused, Short, text_of, tag_text, Wrote};
 
 use crate::LINE;
 use header::refusal::Refusal;
 use tags::record::TagRecord;
 
-// Puts a text into the line from index `at` on, and says where it ends.
-fn say(line: &mut [u8], at: usize, text: &[u8]) -> usize
-    requires { at + length text.now ≤ length line.old }
-    ensures { Wrote line.old at text.now result line.new }
-{
-    let mut i = 0;
-    while i < text.len() {
-        line[at + i] = text[i];
-        i += 1;
+// A line of text: the first bytes of a buffer. The bytes behind them are those of lines before.
+#[derive(Drop)]
+pub struct Line {
+    bytes: [u8; LINE],
+    length: usize,
+    ghost within: { length ≤ 80 },
+}
+
+impl Line {
+    // No text, over zeros.
+    pub fn empty() -> Line
+        ensures { result.length ≡ 0 }
+    {
+        Line {
+            bytes: [0; LINE],
+            length: 0,
+        }
     }
-    at + i
-}
 
-// The same of a number in decimal.
-fn number(line: &mut [u8], at: usize, n: u64) -> usize
-    requires { at + most_digits ≤ length line.old }
-    ensures wrote { Wrote line.old at (decimal n) result line.new }
-    ensures below { result ≤ at + most_digits }
-{
-    let mut digits = [0u8; 20];
-    let n = io::decimal(n, &mut digits);
-    say(line, at, &digits[..n])
-}
-
-// The same of a text and a number behind it.
-fn named(line: &mut [u8], at: usize, text: &[u8], n: u64) -> usize
-    requires { at + length text.now + most_digits ≤ length line.old }
-    ensures wrote { Wrote line.old at (text.now ++ decimal n) result line.new }
-    ensures below { result ≤ at + length text.now + most_digits }
-{
-    let end = say(line, at, text);
-    number(line, end, n)
-}
-
-// The line of a record that was served.
-fn sent(line: &mut [u8; LINE], k: u64, words: usize) -> usize
-    ensures { Wrote line.old 0 (text_of k (Sent words)) result line.new }
-{
-    let at = number(line, 0, k);
-    let at = named(line, at, b" sent ", words as u64);
-    say(line, at, b"\n")
-}
-
-// The line of a record that was refused.
-fn refused(line: &mut [u8; LINE], k: u64, refusal: Refusal) -> usize
-    ensures { Wrote line.old 0 (text_of k (Refused refusal)) result line.new }
-{
-    let at = number(line, 0, k);
-    let at = named(line, at, b" refused ", refusal.number as u64);
-    let at = named(line, at, b" at ", refusal.at as u64);
-    say(line, at, b"\n")
-}
-
-// The line of a record that was whole.
-pub(crate) fn told(line: &mut [u8; LINE], k: u64, refusal: Refusal, words: usize) -> usize
-    ensures { Wrote line.old 0 (text_of k (line_of refusal words)) result line.new }
-{
-    if refusal.number == 0 {
-        return sent(line, k, words);
+    // Its text.
+    pub fn text(&self) -> &[u8]
+        ensures { result.now ≡ take self.now.length self.now.bytes }
+    {
+        &self.bytes[..self.length]
     }
-    refused(line, k, refusal)
-}
 
-// The line of a tail shorter than a record.
-pub(crate) fn short(line: &mut [u8; LINE], k: u64) -> usize
-    ensures { Wrote line.old 0 (text_of k Short) result line.new }
-{
-    let at = number(line, 0, k);
-    say(line, at, b" short\n")
-}
-
-// The last line: the newest tag, or that there is none.
-pub(crate) fn tag(line: &mut [u8; LINE], tags: TagRecord) -> usize
-    ensures { Wrote line.old 0 (tag_text tags) result line.new }
-{
-    if tags.held == 0 {
-        return say(line, 0, b"tag none\n");
+    // No text; its bytes stay.
+    pub(crate) fn clear(&mut self)
+        ensures none { self.new.length ≡ 0 }
+        ensures bytes { self.new.bytes ≡ self.old.bytes }
+    {
+        self.length = 0;
     }
-    let at = named(line, 0, b"tag ", tags.tag as u64);
-    say(line, at, b"\n")
+
+    // Puts a text behind what there is.
+    fn put(&mut self, text: &[u8])
+        requires { self.old.length + length text.now ≤ 80 }
+        ensures { Wrote self.old.bytes self.old.length text.now self.new.length self.new.bytes }
+    {
+        let end = self.length + text.len();
+        self.bytes[self.length..end].copy_from_slice(text);
+        self.length = end;
+    }
+
+    // The same of a number in decimal.
+    fn number(&mut self, n: u64)
+        requires { self.old.length + most_digits ≤ 80 }
+        ensures wrote { Wrote self.old.bytes self.old.length (decimal n) self.new.length self.new.bytes }
+        ensures below { self.new.length ≤ self.old.length + most_digits }
+    {
+        let mut digits = [0u8; 20];
+        let n = io::decimal(n, &mut digits);
+        self.put(&digits[..n]);
+    }
+
+    // The same of a text and a number behind it.
+    fn named(&mut self, text: &[u8], n: u64)
+        requires { self.old.length + length text.now + most_digits ≤ 80 }
+        ensures wrote { Wrote self.old.bytes self.old.length (text.now ++ decimal n) self.new.length self.new.bytes }
+        ensures below { self.new.length ≤ self.old.length + length text.now + most_digits }
+    {
+        self.put(text);
+        self.number(n);
+    }
+
+    // Begins the line of record k.
+    fn begin(&mut self, k: u64)
+        ensures wrote { Wrote self.old.bytes 0 (decimal k) self.new.length self.new.bytes }
+        ensures below { self.new.length ≤ most_digits }
+    {
+        self.clear();
+        self.number(k);
+    }
+
+    // The line of a record that was served.
+    pub(crate) fn sent(&mut self, k: u64, words: usize)
+        ensures { Wrote self.old.bytes 0 (text_of k (Sent words)) self.new.length self.new.bytes }
+    {
+        self.begin(k);
+        self.named(b" sent ", words as u64);
+        self.put(b"\n");
+    }
+
+    // The line of a record that was refused.
+    pub(crate) fn refused(&mut self, k: u64, refusal: Refusal)
+        ensures { Wrote self.old.bytes 0 (text_of k (Refused refusal)) self.new.length self.new.bytes }
+    {
+        self.begin(k);
+        self.named(b" refused ", u64::from(refusal.number));
+        self.named(b" at ", u64::from(refusal.at));
+        self.put(b"\n");
+    }
+
+    // The line of a tail shorter than a record.
+    pub(crate) fn short(&mut self, k: u64)
+        ensures { Wrote self.old.bytes 0 (text_of k Short) self.new.length self.new.bytes }
+    {
+        self.begin(k);
+        self.put(b" short\n");
+    }
+
+    // The last line: the newest tag, or that there is none.
+    pub(crate) fn tag(&mut self, tags: TagRecord)
+        ensures { Wrote self.old.bytes 0 (tag_text tags) self.new.length self.new.bytes }
+    {
+        self.clear();
+        if tags.held == 0 {
+            self.put(b"tag none\n");
+        } else {
+            self.named(b"tag ", u64::from(tags.tag));
+            self.put(b"\n");
+        }
+    }
 }

@@ -2,43 +2,25 @@
 // What a record is and what its line says is the library's.
 #![tactic(auto)]
 
-use night::{Night, Turn};
+use night::{Line, Night};
+use std::io::Write;
 
 // The descriptor of standard input.
 const STDIN: i32 = 0;
 
-// The first n bytes of a line, to standard output.
-fn write(line: [u8; night::LINE], n: usize) {
-    show::say(show::front(&line, n));
-}
-
-// Record k, or what there is of it, read and played; its line is written.
-fn next(before: Night, k: u64) -> Turn {
+fn main(rt: HostRuntime) -> std::io::Result<()> {
+    let mut night = Night::start();
     let mut recorded = [0u8; night::RECORD];
-    let mut line = [0u8; night::LINE];
-    let n = io::read_full(STDIN, &mut recorded);
-    let turn = night::play(before, k, show::front(&recorded, n), &mut line);
-    write(line, turn.length);
-    turn
-}
-
-// All records, counted from 1, and the state after them.
-fn played() -> Night {
-    let mut state = Night::start();
-    let mut k: u64 = 0;
-    while k < u64::MAX {
-        k += 1;
-        let turn = next(state, k);
-        state = turn.night;
-        if !turn.more {
-            return state;
+    let mut line = Line::empty();
+    let mut out = std::io::writer(&rt);
+    for k in 1..=u64::MAX {
+        let n = io::read_full(STDIN, &mut recorded);
+        let more = night.play(k, show::front(&recorded, n), &mut line);
+        out.write_all(line.text())?;
+        if !more {
+            break;
         }
     }
-    state
-}
-
-fn main() {
-    let mut line = [0u8; night::LINE];
-    let n = night::last(played(), &mut line);
-    write(line, n);
+    night.last(&mut line);
+    out.write_all(line.text())
 }

@@ -1,9 +1,0 @@
--- `night::text::short` meets its contract: two runs, one behind the other. Assumes nothing.
-use Rattle.std.proofs.Common.{rules}
-use Rattle.night.specs.Text.{ascii, decimal, text_of}
-use Rattle.night.proofs.Inner.Written.{wrote_then}
-use Rattle.night.proofs.text.short.Goals as goal
-
-pub returns : goal.returns
-unfolding text_of
-returns c = wrote_then c.args.line.now 0 (decimal c.args.k) (ascii " short\n") (search rules) c.number-at.ensures.wrote c.say.ensures
