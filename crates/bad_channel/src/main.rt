@@ -7,9 +7,12 @@
 #![tactic(auto)]
 
 use channel_run::controller::Controller;
+use channel_run::loader::{Outcome, State};
 use channel_run::{Bytes, Channel, loader};
+use initiator::sender;
 use initiator::sender::Sender;
 use message::discovery;
+use std::io;
 
 mod messages;
 mod round;
@@ -38,79 +41,97 @@ impl Ends {
     }
 
     // Message i is offered, and sent; that send is lost.
-    fn offers(&mut self, i: u32) {
-        self.sender = loader::offer(self.sender, messages::compose(i).as_slice());
+    fn offers(&mut self, rt: &impl Print, i: u32) -> io::Result<()> {
+        let message = messages::compose(i);
+        let moved = sender::offer(self.sender, message.as_slice());
+        let sent = loader::send(moved.sender, &message);
+        let state = State {
+            refusal: moved.refusal,
+            sender: moved.sender,
+        };
+        self.sender = moved.sender;
+        println!(rt; ": {state}, sends{}", show::Bytes(sent.as_slice()))
     }
 
     // A datagram comes to the controller: its answer.
-    fn comes(&mut self, datagram: &[u8]) -> Bytes {
-        let answer = self.controller.serve(&mut self.memory, datagram);
-        show::say(b":");
-        show::say_bytes(answer.as_slice());
-        answer
+    fn comes(&mut self, rt: &impl Print, datagram: &[u8]) -> io::Result<Bytes> {
+        let arrived = self.controller.serve(&mut self.memory, datagram);
+        println!(rt; ": {arrived}:{}", show::Bytes(arrived.answer.as_slice()))?;
+        Ok(arrived.answer)
     }
 
     // A datagram of message i comes.
-    fn arrives(&mut self, i: u32, datagram: &Bytes) {
-        let answer = self.comes(datagram.as_slice());
+    fn arrives(&mut self, rt: &impl Print, i: u32, datagram: Bytes) -> io::Result<()> {
+        let answer = self.comes(rt, datagram.as_slice())?;
         self.answers.put(i, answer);
+        Ok(())
+    }
+
+    // A discovery comes, and its answer comes to the sender.
+    fn discovers(&mut self, rt: &impl Print, lent: u32) -> io::Result<()> {
+        let answer = self.comes(rt, &discovery::bytes())?;
+        print!(rt; "its answer")?;
+        self.takes(rt, lent, answer)
+    }
+
+    // The outcome of message i.
+    fn tell(&self, rt: &impl Print, i: u32) -> io::Result<()> {
+        let message = messages::compose(i);
+        let answer = self.answers.get(i);
+        let outcome = Outcome {
+            message: message.as_slice(),
+            answer: answer.as_slice(),
+        };
+        println!(rt; "outcome {i}: {outcome}")
     }
 
     // An answer comes to the sender, to which message `lent` is lent, and the outcomes of the messages that end, the
     // oldest first.
-    fn takes(&mut self, lent: u32, answer: &Bytes) {
+    fn takes(&mut self, rt: &impl Print, lent: u32, answer: Bytes) -> io::Result<()> {
         let message = messages::compose(lent);
-        let taken = loader::take(self.sender, message.as_slice(), answer.as_slice());
+        let taken = sender::take(self.sender, message.as_slice(), answer.as_slice());
+        let state = State {
+            refusal: taken.refusal,
+            sender: taken.sender,
+        };
+        println!(rt; ": {state}, ended {}", taken.ended)?;
         let done = u32::from(self.done);
         for i in done..done + u32::from(taken.ended) {
-            loader::tell(
-                i,
-                messages::compose(i).as_slice(),
-                self.answers.get(i).as_slice(),
-            );
+            self.tell(rt, i)?;
         }
         self.sender = taken.sender;
         self.done = self.done.wrapping_add(taken.ended);
-    }
-
-    // The answer to message i comes to the sender.
-    fn comes_back(&mut self, lent: u32, i: u32) {
-        let answer = self.answers.get(i);
-        self.takes(lent, &answer);
+        Ok(())
     }
 
     // An event of message i. An answer to no message that waits comes with the oldest lent.
-    fn play(&mut self, event: Event, i: u32) {
+    fn play(&mut self, rt: &impl Print, event: Event, i: u32) -> io::Result<()> {
         let oldest = u32::from(self.done);
+        let answer = self.answers.get(i);
         match event {
-            Event::Offer | Event::FifthOffer => self.offers(i),
+            Event::Offer | Event::FifthOffer => self.offers(rt, i),
             Event::Early | Event::Arrives | Event::Again => {
                 let sent = loader::send(self.sender, &messages::compose(i));
-                self.arrives(i, &sent);
+                self.arrives(rt, i, sent)
             }
-            Event::Late => self.arrives(i, &messages::compose(i)),
-            Event::Discovery => {
-                let answer = self.comes(&discovery::bytes());
-                show::say(b"its answer");
-                self.takes(oldest, &answer);
-            }
-            Event::Answer | Event::AnswerAgain => self.comes_back(i, i),
-            Event::OldAnswer => self.comes_back(oldest, i),
+            Event::Late => self.arrives(rt, i, messages::compose(i)),
+            Event::Discovery => self.discovers(rt, oldest),
+            Event::Answer | Event::AnswerAgain => self.takes(rt, i, answer),
+            Event::OldAnswer => self.takes(rt, oldest, answer),
         }
     }
 }
 
 // Five rounds. No message comes that is older than the first.
-fn main() {
+fn main(rt: HostRuntime) -> io::Result<()> {
     let mut ends = Ends::dusk();
     for round in 0..5u8 {
         for (event, ahead) in ROUND {
             if let Ok(i) = u32::try_from(5 * i32::from(round) + i32::from(ahead)) {
-                show::number(event.label(), u64::from(i));
-                ends.play(event, i);
+                print!(rt; "{event} {i}")?;
+                ends.play(&rt, event, i)?;
             }
         }
     }
-    show::say(b"memory");
-    show::say_words(&ends.memory);
+    println!(rt; "memory{}", show::Words(&ends.memory))
 }

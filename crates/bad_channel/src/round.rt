@@ -1,5 +1,6 @@
 // A round: what happens in it, and to which message, counted from the first of the round: below 0 it is one of a round
 // before. The last of the round before comes late, and the oldest that may still come.
+use std::fmt;
 
 #[derive(Clone, Copy)]
 pub(crate) enum Event {
@@ -15,21 +16,22 @@ pub(crate) enum Event {
     AnswerAgain,
 }
 
-impl Event {
-    // What it is called.
-    pub(crate) fn label(self) -> &'static [u8] {
-        match self {
-            Event::Offer => b"offer ",
-            Event::FifthOffer => b"fifth offer ",
-            Event::OldAnswer => b"old answer ",
-            Event::Early => b"early ",
-            Event::Arrives => b"arrives ",
-            Event::Again => b"again ",
-            Event::Late => b"late ",
-            Event::Discovery => b"discovery beside ",
-            Event::Answer => b"answer ",
-            Event::AnswerAgain => b"answer again ",
-        }
+// What it is called.
+impl fmt::Display for Event {
+    fn fmt<W: fmt::Write>(&self, f: &mut fmt::Formatter<W>) -> fmt::Result {
+        let words = match self {
+            Event::Offer => "offer",
+            Event::FifthOffer => "fifth offer",
+            Event::OldAnswer => "old answer",
+            Event::Early => "early",
+            Event::Arrives => "arrives",
+            Event::Again => "again",
+            Event::Late => "late",
+            Event::Discovery => "discovery beside",
+            Event::Answer => "answer",
+            Event::AnswerAgain => "answer again",
+        };
+        write!(f, "{words}")
     }
 }
 

@@ -5,7 +5,7 @@ use Rattle.tags.specs.Record.{places, fresh_record}
 use Rattle.completer.specs.Controller.{Controller as Whole, lent, After}
 use Rattle.completer.specs.Serving.{after}
 use Rattle.channel_run.specs.declared.controller.Controller.{Controller}
-use Rattle.channel_run.specs.declared.Bytes.{Bytes}
+use Rattle.channel_run.specs.declared.controller.Arrived.{Arrived}
 use Rattle.channel_run.specs.Bytes.{first_of, zeros}
 
 -- a fresh record, and this byte throughout the stored answers and the kept requests
@@ -24,6 +24,6 @@ after_in memory c dg = after (lent memory c.stored c.kept c.tags) zeros dg
 abbrev pub held_by : Whole → Controller
 held_by c = record { stored = c.stored; kept = c.kept; tags = c.tags }
 
--- and what it hands back: the answer; the refusal is printed
-abbrev pub answer_by : After → Bytes
-answer_by a = first_of a.output a.sent
+-- and what it hands back: the refusal, and the answer
+abbrev pub arrived_by : After → Arrived
+arrived_by a = record { refusal = a.refusal; answer = first_of a.output a.sent }

@@ -1,10 +1,12 @@
 // The controller's end: what it holds beside its memory, and a datagram that comes to it.
 ghost use Rattle.std.specs.Prelude.{◌≡◌};
-ghost use Rattle.channel_run.specs.Controller.{fresh_with, after_in, held_by, answer_by};
+ghost use Rattle.channel_run.specs.Controller.{fresh_with, after_in, held_by, arrived_by};
 
 use crate::Bytes;
 use completer::serving;
 use header::limits;
+use header::refusal::Refusal;
+use std::fmt;
 use tags::record::TagRecord;
 
 #[derive(Clone, Copy)]
@@ -12,6 +14,19 @@ pub struct Controller {
     pub stored: [u32; TagRecord::STORED],
     pub kept: [u8; TagRecord::KEPT],
     pub tags: TagRecord,
+}
+
+// What a datagram came to: its refusal (number 0: none), and the answer.
+#[derive(Clone, Copy)]
+pub struct Arrived {
+    pub refusal: Refusal,
+    pub answer: Bytes,
+}
+
+impl fmt::Display for Arrived {
+    fn fmt<W: fmt::Write>(&self, f: &mut fmt::Formatter<W>) -> fmt::Result {
+        write!(f, "refusal {}, bytes {}", self.refusal.number, self.answer.n)
+    }
 }
 
 impl Controller {
@@ -26,9 +41,9 @@ impl Controller {
         }
     }
 
-    // A datagram comes to it, over this memory: its answer.
-    pub fn serve(&mut self, memory: &mut [u32], datagram: &[u8]) -> Bytes
-        ensures answer { result ≡ answer_by (after_in memory.old self.old datagram.now) }
+    // A datagram comes to it, over this memory.
+    pub fn serve(&mut self, memory: &mut [u32], datagram: &[u8]) -> Arrived
+        ensures arrived { result ≡ arrived_by (after_in memory.old self.old datagram.now) }
         ensures held { self.new ≡ held_by (after_in memory.old self.old datagram.now).controller }
         ensures memory { memory.new ≡ (after_in memory.old self.old datagram.now).controller.memory }
     {
@@ -42,11 +57,12 @@ impl Controller {
             datagram,
         );
         self.tags = served.tags;
-        show::number(b": refusal ", u64::from(served.refusal.number));
-        show::number(b", bytes ", served.sent as u64);
-        Bytes {
-            bytes,
-            n: served.sent,
+        Arrived {
+            refusal: served.refusal,
+            answer: Bytes {
+                bytes,
+                n: served.sent,
+            },
         }
     }
 }

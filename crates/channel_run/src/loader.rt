@@ -1,33 +1,13 @@
-// The loader's end: a discovery's answer heard, a message offered, sent, its answer taken, and what that tells.
+// The loader's end: what is sent of a message, and how what the sender's calls gave is printed.
 ghost use Rattle.std.specs.Prelude.{◌≡◌, length};
-ghost use Rattle.initiator.specs.Sender.{offer_of, send_of, take_of, start_of};
+ghost use Rattle.initiator.specs.Sender.{send_of};
 ghost use Rattle.channel_run.specs.Bytes.{first_of, datagram_in};
 
 use crate::Bytes;
 use header::refusal::Refusal;
-use initiator::sender::{Sender, Taken};
+use initiator::sender::Sender;
 use initiator::{outcome, sender};
-
-// A refusal, and the sender then: its next tag, how many wait, and which of the three younger ones are answered.
-fn say_sender(refusal: Refusal, s: Sender) {
-    show::number(b": refusal ", u64::from(refusal.number));
-    show::number(b", next ", u64::from(s.next));
-    show::number(b", waiting ", u64::from(s.waiting));
-    show::number(b", answered ", u64::from(s.second));
-    show::number(b" ", u64::from(s.third));
-    show::number(b" ", u64::from(s.fourth));
-}
-
-// An answer comes to a loader that has asked: the sender that it makes.
-pub fn hear(answer: &[u8]) -> Sender
-    ensures { result ≡ (start_of answer.now).sender }
-{
-    let moved = Sender::discovered(answer);
-    show::number(b": refusal ", u64::from(moved.refusal.number));
-    show::number(b", next ", u64::from(moved.sender.next));
-    show::say(b"\n");
-    moved.sender
-}
+use std::fmt;
 
 // What is sent of a message: nothing where it does not wait.
 pub fn send(s: Sender, message: &Bytes) -> Bytes
@@ -39,32 +19,41 @@ pub fn send(s: Sender, message: &Bytes) -> Bytes
     }
 }
 
-// A message is offered, and the bytes that are then sent are shown.
-pub fn offer(s: Sender, message: &[u8]) -> Sender
-    ensures { result ≡ (offer_of s message.now).sender }
-{
-    let moved = sender::offer(s, message);
-    say_sender(moved.refusal, moved.sender);
-    show::say(b", sends");
-    show::say_bytes(sender::send(moved.sender, message));
-    moved.sender
+// A refusal (number 0: none), and the sender then: its next tag, how many wait, and which of the three younger ones are
+// answered.
+#[derive(Clone, Copy)]
+pub struct State {
+    pub refusal: Refusal,
+    pub sender: Sender,
 }
 
-// An answer comes to the sender, to which this message is lent.
-pub fn take(s: Sender, message: &[u8], answer: &[u8]) -> Taken
-    ensures { result ≡ take_of s message.now answer.now }
-{
-    let taken = sender::take(s, message, answer);
-    say_sender(taken.refusal, taken.sender);
-    show::number(b", ended ", u64::from(taken.ended));
-    show::say(b"\n");
-    taken
+impl fmt::Display for State {
+    fn fmt<W: fmt::Write>(&self, f: &mut fmt::Formatter<W>) -> fmt::Result {
+        let s = self.sender;
+        write!(
+            f,
+            "refusal {}, next {}, waiting {}, answered {} {} {}",
+            self.refusal.number,
+            s.next,
+            s.waiting,
+            u8::from(s.second),
+            u8::from(s.third),
+            u8::from(s.fourth)
+        )
+    }
 }
 
-// The outcome of message i, which had this answer.
-pub fn tell(i: u32, message: &[u8], answer: &[u8]) {
-    show::number(b"outcome ", u64::from(i));
-    show::number(b": answered ", outcome::answered(message, answer) as u64);
-    show::say(b", data");
-    show::say_bytes(outcome::read_data(message, answer, 0));
+// A message of one command, and its answer: how many commands it answers, and the data of a read.
+#[derive(Clone, Copy)]
+pub struct Outcome<'a> {
+    pub message: &'a [u8],
+    pub answer: &'a [u8],
+}
+
+impl fmt::Display for Outcome<'_> {
+    fn fmt<W: fmt::Write>(&self, f: &mut fmt::Formatter<W>) -> fmt::Result {
+        let answered = outcome::answered(self.message, self.answer);
+        let part = outcome::read_data(self.message, self.answer, 0);
+        write!(f, "answered {answered}, data{}", show::Bytes(part))
+    }
 }

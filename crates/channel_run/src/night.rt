@@ -1,13 +1,10 @@
 // A night of lives over one controller: a loader loses all it knows at any moment, and with a reset of the controller
 // so does that. What a program's loader is, the program says.
-ghost use Rattle.std.specs.Prelude.{◌≡◌};
-ghost use Rattle.channel_run.specs.Bytes.{datagram_in, place_of, placed};
-ghost use Rattle.channel_run.specs.Controller.{after_in, held_by, answer_by};
-
-use crate::controller::Controller;
-use crate::{Bytes, Channel, loader};
+use crate::Channel;
+use crate::controller::{Arrived, Controller};
 use initiator::sender::Sender;
 use message::discovery;
+use std::{fmt, io};
 use tags::record::TagRecord;
 
 // How a life ends.
@@ -30,17 +27,20 @@ impl End {
             _ => End::Over,
         }
     }
+}
 
-    pub fn label(self) -> &'static [u8] {
-        match self {
-            End::Restart => b"; restart",
-            End::Reset => b"; reset of the controller",
-            End::Over => b"; the night is over",
-        }
+impl fmt::Display for End {
+    fn fmt<W: fmt::Write>(&self, f: &mut fmt::Formatter<W>) -> fmt::Result {
+        let words = match self {
+            End::Restart => "restart",
+            End::Reset => "reset of the controller",
+            End::Over => "the night is over",
+        };
+        write!(f, "{words}")
     }
 }
 
-// What a program's own loader does in a night.
+// What a program's own loader does in a night over so many words of memory.
 pub trait Loader<const WORDS: usize>: Copy {
     // That of the next life, before it has begun: its sender is one that 37 stops.
     fn next(&self) -> Self;
@@ -48,11 +48,17 @@ pub trait Loader<const WORDS: usize>: Copy {
     // It begins with this sender, at which none waits.
     fn begins(&mut self, sender: Sender);
 
-    // The controller has answered a datagram, with this record before and then; prints the rest of the line.
-    fn arrived(&mut self, before: TagRecord, then: TagRecord, answer: &Bytes);
+    // A datagram has come to the controller, whose record was this before and is then; prints the rest of the line.
+    fn arrived(
+        &mut self,
+        rt: &impl Print,
+        before: TagRecord,
+        then: TagRecord,
+        arrived: &Arrived,
+    ) -> io::Result<()>;
 
     // Prints how far its life came, how it ends, and the memory that it leaves.
-    fn say_end(&self, end: End, memory: &[u32; WORDS]);
+    fn say_end(&self, rt: &impl Print, end: End, memory: &[u32; WORDS]) -> io::Result<()>;
 }
 
 // The loader; the channel: what was sent of each message, and the last answer to each, to the loader's discovery, which
@@ -79,45 +85,47 @@ impl<L: Loader<WORDS>, const WORDS: usize> Night<L, WORDS> {
     }
 
     // Datagram i comes to the controller.
-    pub fn comes(&mut self, i: u32, datagram: &[u8]) {
+    pub fn comes(&mut self, rt: &impl Print, i: u32, datagram: &[u8]) -> io::Result<()> {
         let before = self.controller.tags;
-        let answer = self.controller.serve(&mut self.memory, datagram);
-        self.loader.arrived(before, self.controller.tags, &answer);
-        self.answers.put(i, answer);
+        let arrived = self.controller.serve(&mut self.memory, datagram);
+        self.answers.put(i, arrived.answer);
+        self.loader.arrived(rt, before, self.controller.tags, &arrived)
     }
 
     // What was sent of message i comes.
-    pub fn late(&mut self, i: u32) {
+    pub fn late(&mut self, rt: &impl Print, i: u32) -> io::Result<()> {
         let request = self.requests.get(i);
-        self.comes(i, request.as_slice());
+        self.comes(rt, i, request.as_slice())
     }
 
     // The loader asks, or its discovery comes again.
-    pub fn asks(&mut self) {
-        self.comes(5, &discovery::bytes());
+    pub fn asks(&mut self, rt: &impl Print) -> io::Result<()> {
+        self.comes(rt, 5, &discovery::bytes())
     }
 
     // A stranger reads words 0 and 1, by a discovery with tag 1; another, 7, by one with tag 2.
-    pub fn stranger(&mut self, i: u32) {
+    pub fn stranger(&mut self, rt: &impl Print, i: u32) -> io::Result<()> {
         let byte0 = if i == 7 { 162 } else { 161 };
-        self.comes(i, &[byte0, 0, 2, 128, 0, 0, 0, 0]);
+        self.comes(rt, i, &[byte0, 0, 2, 128, 0, 0, 0, 0])
     }
 
     // The answer to datagram i comes to the loader as that to its discovery.
-    pub fn hears(&mut self, i: u32) {
-        let sender = loader::hear(self.answers.get(i).as_slice());
-        self.loader.begins(sender);
+    pub fn hears(&mut self, rt: &impl Print, i: u32) -> io::Result<()> {
+        let moved = Sender::discovered(self.answers.get(i).as_slice());
+        self.loader.begins(moved.sender);
+        println!(rt; ": refusal {}, next {}", moved.refusal.number, moved.sender.next)
     }
 
     // The life is over, and the next finds what it left: nothing is in the channel. A reset: the record is fresh, and
     // the other buffers hold something else.
-    pub fn ends(&mut self, end: End) {
-        self.loader.say_end(end, &self.memory);
+    pub fn ends(&mut self, rt: &impl Print, end: End) -> io::Result<()> {
+        self.loader.say_end(rt, end, &self.memory)?;
         if end == End::Reset {
             self.controller = Controller::fresh(7);
         }
         self.loader = self.loader.next();
         self.requests = Channel::empty();
         self.answers = Channel::empty();
+        Ok(())
     }
 }

@@ -13,9 +13,13 @@
 // and other words fill the stored answers after the reset.
 #![tactic(auto)]
 
+use channel_run::controller::Arrived;
+use channel_run::loader::{Outcome, State};
 use channel_run::night::{End, Loader, Night};
 use channel_run::{Bytes, Channel, loader};
+use initiator::sender;
 use initiator::sender::Sender;
+use std::{fmt, io};
 use tags::record::TagRecord;
 
 mod messages;
@@ -56,42 +60,65 @@ impl Life {
     }
 
     // It is offered, and sent.
-    fn offers(&mut self, requests: &mut Channel, i: u32) {
-        self.sender = loader::offer(self.sender, self.message(i).as_slice());
-        self.sends(requests, i);
+    fn offers(&mut self, rt: &impl Print, requests: &mut Channel, i: u32) -> io::Result<()> {
+        let message = self.message(i);
+        let moved = sender::offer(self.sender, message.as_slice());
+        let sent = loader::send(moved.sender, &message);
+        let state = State {
+            refusal: moved.refusal,
+            sender: moved.sender,
+        };
+        self.sender = moved.sender;
+        requests.put(i, sent);
+        println!(rt; ": {state}, sends{}", show::Bytes(sent.as_slice()))
     }
 
     // The outcome of message i.
-    fn tell(&self, answers: &Channel, i: u32) {
-        show::say(b"  ");
-        loader::tell(i, self.message(i).as_slice(), answers.get(i).as_slice());
+    fn tell(&self, rt: &impl Print, answers: &Channel, i: u32) -> io::Result<()> {
+        let message = self.message(i);
+        let answer = answers.get(i);
+        let outcome = Outcome {
+            message: message.as_slice(),
+            answer: answer.as_slice(),
+        };
+        println!(rt; "  outcome {i}: {outcome}")
     }
 
     // The answer to datagram i comes to the sender. With an answer to no message the oldest is lent. The outcomes of
     // the messages that ended, the oldest first.
-    fn takes(&mut self, answers: &Channel, i: u32) {
+    fn takes(&mut self, rt: &impl Print, answers: &Channel, i: u32) -> io::Result<()> {
         let done = u32::from(self.done);
         let lent = self.message(if i < 5 { i } else { done });
-        let taken = loader::take(self.sender, lent.as_slice(), answers.get(i).as_slice());
+        let taken = sender::take(self.sender, lent.as_slice(), answers.get(i).as_slice());
+        let state = State {
+            refusal: taken.refusal,
+            sender: taken.sender,
+        };
+        println!(rt; ": {state}, ended {}", taken.ended)?;
         for ended in done..done + u32::from(taken.ended) {
-            self.tell(answers, ended);
+            self.tell(rt, answers, ended)?;
         }
         self.sender = taken.sender;
         self.done = self.done.wrapping_add(taken.ended);
+        Ok(())
     }
+}
 
-    // How far it came.
-    fn say(&self) {
-        show::number(b"", u64::from(self.number));
+// How far it came.
+impl fmt::Display for Life {
+    fn fmt<W: fmt::Write>(&self, f: &mut fmt::Formatter<W>) -> fmt::Result {
         if self.sender.next > 15 {
-            show::say(b": did not begin");
-            return;
+            return write!(f, "{}: did not begin", self.number);
         }
-        let offered = u64::from(self.done) + u64::from(self.sender.waiting);
-        show::number(b": began with tag ", u64::from(self.first));
-        show::number(b", offered ", offered);
-        show::number(b", carried out ", u64::from(self.carried));
-        show::number(b", finished ", u64::from(self.done));
+        write!(
+            f,
+            "{}: began with tag {}, offered {}, carried out {}, finished {}",
+            self.number,
+            self.first,
+            u32::from(self.done) + u32::from(self.sender.waiting),
+            self.carried,
+            self.done
+        )
     }
 }
 
@@ -106,52 +133,53 @@ impl Loader<3> for Life {
     }
 
     // One more is carried out where the record then is another.
-    fn arrived(&mut self, before: TagRecord, then: TagRecord, answer: &Bytes) {
-        show::say(b":");
-        show::say_bytes(answer.as_slice());
+    fn arrived(
+        &mut self,
+        rt: &impl Print,
+        before: TagRecord,
+        then: TagRecord,
+        arrived: &Arrived,
+    ) -> io::Result<()> {
         if before.held != then.held || before.tag != then.tag {
             self.carried = self.carried.wrapping_add(1);
         }
+        println!(rt; ": {arrived}:{}", show::Bytes(arrived.answer.as_slice()))
     }
 
-    fn say_end(&self, end: End, memory: &[u32; 3]) {
-        self.say();
-        show::say(end.label());
-        show::say(b"; memory");
-        show::say_words(memory);
+    fn say_end(&self, rt: &impl Print, end: End, memory: &[u32; 3]) -> io::Result<()> {
+        println!(rt; "{self}; {end}; memory{}", show::Words(memory))
     }
 }
 
 // The loader begins as one of a fresh pair.
-fn fresh(life: &mut Life) {
-    let sender = Sender::fresh();
-    show::number(b": next ", u64::from(sender.next));
-    show::say(b"\n");
-    life.begins(sender);
+fn fresh(rt: &impl Print, life: &mut Life) -> io::Result<()> {
+    life.begins(Sender::fresh());
+    println!(rt; ": next {}", life.sender.next)
 }
 
-fn play(night: &mut Night<Life, 3>, event: Event) {
+fn play(rt: &impl Print, night: &mut Night<Life, 3>, event: Event) -> io::Result<()> {
     match event {
-        Event::Offer(i) => night.loader.offers(&mut night.requests, i),
-        Event::Comes(i) => night.late(i),
+        Event::Offer(i) => night.loader.offers(rt, &mut night.requests, i),
+        Event::Comes(i) => night.late(rt, i),
         Event::Again(i) => {
             night.loader.sends(&mut night.requests, i);
-            night.late(i);
+            night.late(rt, i)
         }
-        Event::Answer(i) => night.loader.takes(&night.answers, i),
-        Event::Asks | Event::Discovery => night.asks(),
-        Event::Stranger(i) => night.stranger(i),
-        Event::Hears(i) => night.hears(i),
-        Event::Fresh => fresh(&mut night.loader),
-        Event::Ends(end) => night.ends(end),
+        Event::Answer(i) => night.loader.takes(rt, &night.answers, i),
+        Event::Asks | Event::Discovery => night.asks(rt),
+        Event::Stranger(i) => night.stranger(rt, i),
+        Event::Hears(i) => night.hears(rt, i),
+        Event::Fresh => fresh(rt, &mut night.loader),
+        Event::Ends(end) => night.ends(rt, end),
     }
 }
 
 // Last summer's words stand in memory.
-fn main() {
+fn main(rt: HostRuntime) -> io::Result<()> {
     let mut night = Night::new(Life::new(1), [0x51, 0x52, 0x53]);
     for event in script::NIGHT.split_whitespace().filter_map(Event::read) {
-        event.say();
-        play(&mut night, event);
+        print!(rt; "{event}")?;
+        play(&rt, &mut night, event)?;
     }
+    Ok(())
 }

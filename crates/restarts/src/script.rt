@@ -9,6 +9,7 @@
 // "Comes" alone is: to the controller. What never comes is lost.
 use channel_run::night::End;
 use channel_run::script;
+use std::fmt;
 
 pub(crate) const NIGHT: &str = "f0 o0 o1 o2 o3 a0 a2 a1 a0 b0 e0
 x7 x6 x7 e0
@@ -56,20 +57,22 @@ impl Event {
             _ => None,
         }
     }
+}
 
-    // What it is called, and its number.
-    pub(crate) fn say(self) {
+// What it is called, and its number.
+impl fmt::Display for Event {
+    fn fmt<W: fmt::Write>(&self, f: &mut fmt::Formatter<W>) -> fmt::Result {
         match self {
-            Event::Offer(i) => show::number(b"  offer ", u64::from(i)),
-            Event::Comes(i) => show::number(b"  comes ", u64::from(i)),
-            Event::Again(i) => show::number(b"  again, comes ", u64::from(i)),
-            Event::Answer(i) => show::number(b"  answer ", u64::from(i)),
-            Event::Asks => show::say(b"  asks 5"),
-            Event::Discovery => show::say(b"  discovery, comes 5"),
-            Event::Stranger(i) => show::number(b"  stranger asks ", u64::from(i)),
-            Event::Hears(i) => show::number(b"  hears ", u64::from(i)),
-            Event::Fresh => show::say(b"  begins fresh"),
-            Event::Ends(_) => show::say(b"life "),
+            Event::Offer(i) => write!(f, "  offer {i}"),
+            Event::Comes(i) => write!(f, "  comes {i}"),
+            Event::Again(i) => write!(f, "  again, comes {i}"),
+            Event::Answer(i) => write!(f, "  answer {i}"),
+            Event::Asks => write!(f, "  asks 5"),
+            Event::Discovery => write!(f, "  discovery, comes 5"),
+            Event::Stranger(i) => write!(f, "  stranger asks {i}"),
+            Event::Hears(i) => write!(f, "  hears {i}"),
+            Event::Fresh => write!(f, "  begins fresh"),
+            Event::Ends(_) => write!(f, "life "),
         }
     }
 }

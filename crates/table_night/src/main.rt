@@ -9,11 +9,13 @@
 // whose it is. Wherever the mark is 18, which is 24, all rows under it are of one life.
 #![tactic(auto)]
 
+use channel_run::controller::Arrived;
 use channel_run::night::{End, Loader, Night};
 use channel_run::{Bytes, Channel, loader};
 use header::limits;
 use initiator::sender::Sender;
 use layout::Stage;
+use std::{fmt, io};
 use table::attempt;
 use table::attempt::{Attempt, Next};
 use tags::record::TagRecord;
@@ -43,18 +45,6 @@ fn number(next: Next) -> u32 {
     }
 }
 
-// What an attempt came to, in words.
-fn say(next: Next) {
-    match next {
-        Next::Send(Stage::Clear) => show::say(b", clearing"),
-        Next::Send(Stage::Rows) => show::say(b", writing the rows"),
-        Next::Send(Stage::Back) => show::say(b", reading them back"),
-        Next::Send(Stage::Mark) => show::say(b", setting the mark"),
-        Next::Done => show::say(b", done"),
-        Next::Ended(row) => show::number(b", ended with ", u64::from(row)),
-    }
-}
-
 impl Life {
     // Before it has begun.
     fn new(number: u32) -> Life {
@@ -65,26 +55,22 @@ impl Life {
     }
 
     // The next message of the attempt is given, and sent.
-    fn gives(&mut self, requests: &mut Channel) {
+    fn gives(&mut self, rt: &impl Print, requests: &mut Channel) -> io::Result<()> {
         let mut bytes = [0; limits::LIMIT_BYTES];
         let words = rows::words_of(self.number);
         let made = attempt::message(&mut bytes, self.attempt, START, ROOM, &words);
-        show::number(b": refusal ", u64::from(made.refusal));
-        show::number(b", bytes ", made.length as u64);
-        show::say(b"\n");
         self.attempt = made.attempt;
         let message = Bytes {
             bytes,
             n: made.length,
         };
-        requests.put(
-            number(self.attempt.next),
-            loader::send(self.attempt.sender, &message),
-        );
+        let sent = loader::send(self.attempt.sender, &message);
+        requests.put(number(self.attempt.next), sent);
+        println!(rt; ": refusal {}, bytes {}", made.refusal, message.n)
     }
 
     // This answer comes to the loader, which takes it for one to the message that waits.
-    fn takes(&mut self, requests: &Channel, answer: &Bytes) {
+    fn takes(&mut self, rt: &impl Print, requests: &Channel, answer: Bytes) -> io::Result<()> {
         let taken = attempt::take(
             self.attempt,
             requests.get(number(self.attempt.next)).as_slice(),
@@ -92,19 +78,38 @@ impl Life {
             &rows::words_of(self.number),
         );
         self.attempt = taken.attempt;
-        show::number(b": refusal ", u64::from(taken.refusal.number));
-        say(self.attempt.next);
-        show::say(b"\n");
+        println!(rt;
+            ": refusal {}, {}",
+            taken.refusal.number,
+            State(self.attempt.next)
+        )
     }
+}
 
-    // What its attempt came to.
-    fn say(&self) {
-        show::number(b"", u64::from(self.number));
-        if self.attempt.sender.next > 15 {
-            show::say(b", did not begin");
-        } else {
-            say(self.attempt.next);
+// What an attempt came to.
+#[derive(Clone, Copy)]
+struct State(Next);
+
+impl fmt::Display for State {
+    fn fmt<W: fmt::Write>(&self, f: &mut fmt::Formatter<W>) -> fmt::Result {
+        match self.0 {
+            Next::Send(Stage::Clear) => write!(f, "clearing"),
+            Next::Send(Stage::Rows) => write!(f, "writing the rows"),
+            Next::Send(Stage::Back) => write!(f, "reading them back"),
+            Next::Send(Stage::Mark) => write!(f, "setting the mark"),
+            Next::Done => write!(f, "done"),
+            Next::Ended(row) => write!(f, "ended with {row}"),
         }
+    }
+}
+
+// What its attempt came to.
+impl fmt::Display for Life {
+    fn fmt<W: fmt::Write>(&self, f: &mut fmt::Formatter<W>) -> fmt::Result {
+        if self.attempt.sender.next > 15 {
+            return write!(f, "{}, did not begin", self.number);
+        }
+        write!(f, "{}, {}", self.number, State(self.attempt.next))
     }
 }
 
@@ -117,51 +122,53 @@ impl Loader<210> for Life {
         self.attempt = Attempt::begin(sender);
     }
 
-    fn arrived(&mut self, _before: TagRecord, _then: TagRecord, _answer: &Bytes) {
-        show::say(b"\n");
+    fn arrived(
+        &mut self,
+        rt: &impl Print,
+        _before: TagRecord,
+        _then: TagRecord,
+        arrived: &Arrived,
+    ) -> io::Result<()> {
+        println!(rt; ": {arrived}")
     }
 
     // Of the memory, the mark and the rows.
-    fn say_end(&self, end: End, memory: &[u32; 210]) {
-        self.say();
-        show::say(end.label());
-        show::hex(b"; mark ", memory[208]);
-        show::say(b"\n");
-        rows::say(memory);
+    fn say_end(&self, rt: &impl Print, end: End, memory: &[u32; 210]) -> io::Result<()> {
+        println!(rt; "{self}; {end}; mark {:08x}", memory[208])?;
+        rows::say(rt, memory)
     }
 }
 
-// The loader begins as one of a fresh pair.
-fn fresh(life: &mut Life) {
-    life.begins(Sender::fresh());
-    show::say(b"\n");
-}
-
-// A hand spoils the last word of row 7.
-fn spoils(memory: &mut [u32; 210]) {
-    memory[71] = 0;
-    show::say(b"\n");
-}
-
-fn play(night: &mut Night<Life, 210>, event: Event) {
+fn play(rt: &impl Print, night: &mut Night<Life, 210>, event: Event) -> io::Result<()> {
     match event {
-        Event::Message => night.loader.gives(&mut night.requests),
-        Event::Comes(i) => night.late(i),
-        Event::Answer(i) => night.loader.takes(&night.requests, &night.answers.get(i)),
-        Event::Asks => night.asks(),
-        Event::Stranger(i) => night.stranger(i),
-        Event::Hears(i) => night.hears(i),
-        Event::Fresh => fresh(&mut night.loader),
-        Event::Spoils => spoils(&mut night.memory),
-        Event::Ends(end) => night.ends(end),
+        Event::Message => night.loader.gives(rt, &mut night.requests),
+        Event::Comes(i) => night.late(rt, i),
+        Event::Answer(i) => night
+            .loader
+            .takes(rt, &night.requests, night.answers.get(i)),
+        Event::Asks => night.asks(rt),
+        Event::Stranger(i) => night.stranger(rt, i),
+        Event::Hears(i) => night.hears(rt, i),
+        // one of a fresh pair
+        Event::Fresh => {
+            night.loader.begins(Sender::fresh());
+            println!(rt)
+        }
+        // the last word of row 7
+        Event::Spoils => {
+            night.memory[71] = 0;
+            println!(rt)
+        }
+        Event::Ends(end) => night.ends(rt, end),
     }
 }
 
 // Last summer's words stand in memory, and the mark is not 24.
-fn main() {
+fn main(rt: HostRuntime) -> io::Result<()> {
     let mut night = Night::new(Life::new(1), [0x51; 210]);
     for event in script::NIGHT.split_whitespace().filter_map(Event::read) {
-        event.say();
-        play(&mut night, event);
+        print!(rt; "{event}")?;
+        play(&rt, &mut night, event)?;
     }
+    Ok(())
 }

@@ -1,5 +1,5 @@
 // The rows of a life, and the table as it stands in memory.
-use std::array;
+use std::{array, io};
 
 // Word i, counted from 0, of all that a life has for its rows.
 fn word_of(life: u32, i: usize) -> u32 {
@@ -12,9 +12,9 @@ pub(crate) fn words_of(life: u32) -> [u32; 168] {
 }
 
 // All rows of the table, which stands behind 16 words.
-pub(crate) fn say(memory: &[u32; 210]) {
+pub(crate) fn say(rt: &impl Print, memory: &[u32; 210]) -> io::Result<()> {
     for row in memory[16..208].chunks(8) {
-        show::say(b"   ");
-        show::say_words(row);
+        println!(rt; "   {}", show::Words(row))?;
     }
+    Ok(())
 }

@@ -7,6 +7,7 @@
 // "Comes" alone is: to the controller. Messages 0 to 3 clear, write, read back, set the mark; what never comes is lost.
 use channel_run::night::End;
 use channel_run::script;
+use std::fmt;
 
 pub(crate) const NIGHT: &str = "f0 m0 e0
 x6 q5 e0
@@ -52,19 +53,21 @@ impl Event {
             _ => None,
         }
     }
+}
 
-    // What it is called, and the number of a message that comes or is answered.
-    pub(crate) fn say(self) {
+// What it is called, and the number of a message that comes or is answered.
+impl fmt::Display for Event {
+    fn fmt<W: fmt::Write>(&self, f: &mut fmt::Formatter<W>) -> fmt::Result {
         match self {
-            Event::Message => show::say(b"  message"),
-            Event::Comes(i) => show::number(b"  comes ", u64::from(i)),
-            Event::Answer(i) => show::number(b"  answer ", u64::from(i)),
-            Event::Asks => show::say(b"  asks"),
-            Event::Stranger(_) => show::say(b"  stranger asks"),
-            Event::Hears(_) => show::say(b"  hears"),
-            Event::Fresh => show::say(b"  begins fresh"),
-            Event::Spoils => show::say(b"  a hand spoils row 7"),
-            Event::Ends(_) => show::say(b"life "),
+            Event::Message => write!(f, "  message"),
+            Event::Comes(i) => write!(f, "  comes {i}"),
+            Event::Answer(i) => write!(f, "  answer {i}"),
+            Event::Asks => write!(f, "  asks"),
+            Event::Stranger(_) => write!(f, "  stranger asks"),
+            Event::Hears(_) => write!(f, "  hears"),
+            Event::Fresh => write!(f, "  begins fresh"),
+            Event::Spoils => write!(f, "  a hand spoils row 7"),
+            Event::Ends(_) => write!(f, "life "),
         }
     }
 }
