@@ -1,19 +1,18 @@
 -- What an answer means, judged against its request and written to bytes. Assumes nothing.
 use Rattle.std.specs.Prelude.{ℕ, zero, suc, ◌+◌, ◌-◌, ◌≡◌, Bool, true, cond, List, [], ◌∷◌, ◌++◌, length, get_or, take, drop, ltb, leb, eqb}
+use Rattle.std.specs.Prelude.{Result, Ok as OkResult, Err, ⊤}
 use Rattle.std.specs.Bool.{beq}
 use Rattle.word.specs.Words.{words_of, bytes_of, Words}
 use Rattle.header.specs.declared.Kind.TheVariants.{Response}
 use Rattle.header.specs.declared.refusal.Refusal.{Refusal}
 use Rattle.header.specs.Header.{tag_of, kind_of, wide_of, discovery_of, byte0_of, byte1_of, count_of, reserved_of, last_of}
 use Rattle.header.specs.Header.{byte0_from, header_from, reply_words, ends_ok}
-use Rattle.header.specs.Refusal.{refused_at, refusal, unless}
+use Rattle.header.specs.Refusal.{refused_at, refusal, unless, result_of}
 use Rattle.header.specs.Limits.{length_ok}
 use Rattle.message.specs.Request.{Command, Request, Reading, Refused, Means, before, none}
 use Rattle.answer.specs.declared.Status.{Status}
 use Rattle.answer.specs.declared.Status.TheVariants.{Ok, Timeout, Error}
 use Rattle.answer.specs.declared.Seen.{Seen}
-use Rattle.answer.specs.declared.Look.{Look}
-use Rattle.answer.specs.declared.Look.TheVariants.{Item, Refused as RefusedLook}
 
 -- "response: 0 OK, 1 Timeout, 2 Error"
 abbrev pub code_of : Status → ℕ
@@ -25,6 +24,10 @@ unfoldable pub status_no : ℕ → Status
 status_no zero = Ok
 status_no (suc zero) = Timeout
 status_no (suc (suc n)) = Error
+
+-- the status that a number names: 0 to 2
+abbrev pub known_status : ℕ → Result Status ⊤
+known_status n = cond (ltb n 3) (OkResult (status_no n)) (Err tt)
 
 -- what one command was answered: "the status and read data of each answered command"
 pub record Answered : Type 0 where
@@ -64,25 +67,18 @@ unfoldable pub seen_of : ℕ → Seen
 seen_of h = record { status = status_no (byte1_of h); count = count_of h; last = last_of h }
 
 -- the same of the header at word `at`, or its refusal
-unfoldable pub look_on : ℕ → ℕ → Bool → ℕ → ℕ → ℕ → Look
-look_on byte0 count last at h left =
-    cond (eqb (answer_fault byte0 count last h left) 0) (Item (seen_of h))
-    (RefusedLook (refused_at (answer_fault byte0 count last h left) at))
+unfoldable pub look_on : ℕ → ℕ → Bool → ℕ → ℕ → ℕ → Result Seen Refusal
+look_on byte0 count last at h left = result_of (refused_at (answer_fault byte0 count last h left) at) (seen_of h)
 
 -- at word `at` of the words ws; "35 (no word)"
-unfoldable pub look_at : ℕ → ℕ → Bool → List ℕ → ℕ → Look
+unfoldable pub look_at : ℕ → ℕ → Bool → List ℕ → ℕ → Result Seen Refusal
 look_at byte0 count last ws at = cond (ltb at (length ws))
-    (look_on byte0 count last at (get_or ws at 0) (length ws - at - 1)) (RefusedLook (refused_at 35 at))
-
--- the refusal of a look that refused
-abbrev pub look_refusal : Look → Refusal
-look_refusal (Item s) = refusal 0
-look_refusal (RefusedLook r) = r
+    (look_on byte0 count last at (get_or ws at 0) (length ws - at - 1)) (Err (refused_at 35 at))
 
 -- what a look comes to: `rest` follows the header, and `go n` is what follows behind n words of it
-abbrev pub look_turn : Look → List ℕ → (ℕ → Reading (List Answered)) → Reading (List Answered)
-look_turn (RefusedLook r) rest go = Refused r
-look_turn (Item s) rest go =
+abbrev pub look_turn : Result Seen Refusal → List ℕ → (ℕ → Reading (List Answered)) → Reading (List Answered)
+look_turn (Err r) rest go = Refused r
+look_turn (OkResult s) rest go =
     cond s.last (Means (record { status = s.status; payload = take s.count rest } ∷ []))
     (before (record { status = s.status; payload = take s.count rest }) (go s.count))
 

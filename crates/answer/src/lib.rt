@@ -4,19 +4,17 @@
 // specs/Answer.antt.
 #![tactic(auto)]
 
-ghost use Rattle.std.specs.Prelude.{◌≡◌, ◌<◌, ◌≤◌, ltb, eqb};
-ghost use Rattle.std.specs.Bool.{beq};
+ghost use Rattle.std.specs.Prelude.{◌≡◌, ◌<◌, ◌≤◌};
 ghost use Rattle.word.specs.Words.{words_of};
 ghost use Rattle.header.specs.Limits.{limit};
-ghost use Rattle.header.specs.Header.{count_of, byte1_of, last_of, ends_ok};
-ghost use Rattle.answer.specs.Answer.{look_refusal, code_of, status_no, answer_byte, wanted, stops, answer_fault};
-ghost use Rattle.answer.specs.Answer.{look_on, look_at, head_fault};
+ghost use Rattle.header.specs.Refusal.{as_result};
+ghost use Rattle.answer.specs.Answer.{code_of, known_status, answer_byte, wanted, stops, look_on, look_at, head_fault};
 
-use header::refusal::Refusal;
+use header::refusal::{Refusal, check};
 use header::{Kind, limits};
 
 // How a command ended.
-#[derive(Clone, Copy)]
+#[derive(Clone, Copy, PartialEq, Eq)]
 pub enum Status {
     Ok,
     Timeout,
@@ -31,37 +29,38 @@ pub struct Seen {
     pub last: bool,
 }
 
-// What stands at an answer's header: an answer that was read, or the refusal.
-#[derive(Drop)]
-pub enum Look {
-    Item(Seen),
-    Refused(Refusal),
-}
+// The status that a number names.
+impl TryFrom<u32> for Status {
+    type Error = ();
 
-// The status that a number below 3 names.
-fn status_no(n: u32) -> Status
-    ensures { result ≡ status_no n }
-{
-    match n {
-        0 => Status::Ok,
-        1 => Status::Timeout,
-        2.. => Status::Error,
+    ghost try_from_gives = { λ n r. r ≡ known_status n };
+
+    #[tactic(auto, unfolding(crate::specs::Answer::status_no))]
+    fn try_from(n: u32) -> Result<Self, ()> {
+        match n {
+            0 => Ok(Status::Ok),
+            1 => Ok(Status::Timeout),
+            2 => Ok(Status::Error),
+            _ => Err(()),
+        }
     }
 }
 
 // The number of a status.
-pub fn code(status: Status) -> u32
-    ensures value { result ≡ code_of status }
-    ensures below { result < 3 }
-{
-    match status {
-        Status::Ok => 0,
-        Status::Timeout => 1,
-        Status::Error => 2,
+impl From<Status> for u32 {
+    ghost from_gives = { λ status n. (n ≡ code_of status) × (n < 3) };
+
+    fn from(status: Status) -> u32 {
+        match status {
+            Status::Ok => 0,
+            Status::Timeout => 1,
+            Status::Error => 2,
+        }
     }
 }
 
 // Byte 0 of the answer to a request of this byte 0.
+#[tactic(auto, unfolding(crate::specs::Answer::answer_byte))]
 pub fn answer_byte(byte0: u32) -> u32
     ensures value { result ≡ answer_byte byte0 }
     ensures below { result < 256 }
@@ -80,8 +79,7 @@ fn wanted_words(byte0: u32, count: usize, status: Status) -> usize
 {
     match status {
         Status::Ok => header::reply_words(header::kind_of(byte0), count),
-        Status::Timeout => 0,
-        Status::Error => 0,
+        Status::Timeout | Status::Error => 0,
     }
 }
 
@@ -89,107 +87,61 @@ fn wanted_words(byte0: u32, count: usize, status: Status) -> usize
 fn must_stop(status: Status, last: bool) -> bool
     ensures { result ≡ stops status last }
 {
-    match status {
-        Status::Ok => last,
-        Status::Timeout => true,
-        Status::Error => true,
-    }
+    last || status != Status::Ok
 }
 
-// Whether an answer's header has the count that its status and its command ask for.
-fn count_right(byte0: u32, count: usize, h: u32) -> bool
-    ensures { result ≡ eqb (count_of h) (wanted byte0 count (status_no (byte1_of h))) }
+// An answer's header h, at word `at` of the answer and with `left` words after it, to a command with this count: as it
+// was read, or refused by its first fault.
+#[tactic(auto, unfolding(crate::specs::Answer::look_on, crate::specs::Answer::answer_fault, crate::specs::Answer::seen_of))]
+pub fn look_on(
+    byte0: u32,
+    count: usize,
+    last: bool,
+    at: u32,
+    h: u32,
+    left: usize,
+) -> Result<Seen, Refusal>
+    ensures { result ≡ look_on byte0 count last at h left }
 {
-    let n = wanted_words(byte0, count, status_no(header::byte1(h)));
-    header::count(h) == n
-}
-
-// Whether an answer's status is one of the three, bits 15:12 being 0.
-fn status_known(h: u32) -> bool
-    ensures { result ≡ ltb (byte1_of h) 3 }
-{
-    let status = header::byte1(h);
-    match status {
-        0..=2 => true,
-        _ => false,
-    }
-}
-
-// Whether nothing follows a LAST answer.
-fn nothing_after(h: u32, left: usize) -> bool
-    ensures { result ≡ ends_ok (last_of h) (count_of h) left }
-{
-    header::ends_ok(header::last(h), header::count(h), left)
-}
-
-// Whether LAST stands where it belongs: on the last command's header or the first nonzero status.
-fn last_right(h: u32, last: bool) -> bool
-    ensures { result ≡ beq (last_of h) (stops (status_no (byte1_of h)) last) }
-{
-    let stop = must_stop(status_no(header::byte1(h)), last);
-    let set = header::last(h);
-    if set {
-        return stop;
-    }
-    !stop
-}
-
-// The first fault of an answer's header h with `left` words after it, to a command with this count, or 0.
-pub fn answer_fault(byte0: u32, count: usize, last: bool, h: u32, left: usize) -> u32
-    ensures { result ≡ answer_fault byte0 count last h left }
-{
-    if header::byte0(h) != answer_byte(byte0) {
-        return Refusal::ANSWER_HEADER;
-    }
-    if header::reserved(h) != 0 {
-        return Refusal::ANSWER_HEADER;
-    }
-    if !status_known(h) {
-        return Refusal::ANSWER_HEADER;
-    }
-    if !count_right(byte0, count, h) {
-        return Refusal::ANSWER_HEADER;
-    }
-    if left < header::count(h) {
-        return Refusal::ANSWER_END;
-    }
-    if !last_right(h, last) {
-        return Refusal::ANSWER_END;
-    }
-    if !nothing_after(h, left) {
-        return Refusal::ANSWER_END;
-    }
-    0
-}
-
-// An answer's header h, at this place of the answer, with `left` words after it.
-fn look_on(byte0: u32, count: usize, last: bool, place: u32, h: u32, left: usize) -> Look
-    ensures { result ≡ look_on byte0 count last place h left }
-{
-    let number = answer_fault(byte0, count, last, h, left);
-    if number != 0 {
-        return Look::Refused(Refusal { number, at: place });
-    }
-    Look::Item(Seen {
-        status: status_no(header::byte1(h)),
+    let same = header::byte0(h) == answer_byte(byte0);
+    check(same, Refusal::ANSWER_HEADER, at)?;
+    check(header::reserved(h) == 0, Refusal::ANSWER_HEADER, at)?;
+    let Ok(status) = Status::try_from(header::byte1(h)) else {
+        return Err(Refusal {
+            number: Refusal::ANSWER_HEADER,
+            at,
+        });
+    };
+    let seen = Seen {
+        status,
         count: header::count(h),
         last: header::last(h),
-    })
+    };
+    let counted = seen.count == wanted_words(byte0, count, status);
+    check(counted, Refusal::ANSWER_HEADER, at)?;
+    check(seen.count <= left, Refusal::ANSWER_END, at)?;
+    let stopped = seen.last == must_stop(status, last);
+    check(stopped, Refusal::ANSWER_END, at)?;
+    let ends = header::ends_ok(seen.last, seen.count, left);
+    check(ends, Refusal::ANSWER_END, at)?;
+    Ok(seen)
 }
 
 // The answer's header at word `at` of a datagram.
-pub fn look_at(byte0: u32, count: usize, last: bool, answer: &[u8], at: usize) -> Look
+#[tactic(auto, using(message::proofs::Laws::Faults::counted_words), unfolding(crate::specs::Answer::look_at))]
+pub fn look_at(
+    byte0: u32,
+    count: usize,
+    last: bool,
+    answer: &[u8],
+    at: usize,
+) -> Result<Seen, Refusal>
     requires { at ≤ limit }
     ensures { result ≡ look_at byte0 count last (words_of answer.now) at }
 {
     let place = at as u32;
     let n = answer.len() / 4;
-    if n <= at {
-        return Look::Refused(Refusal {
-            number: Refusal::ANSWER_END,
-            at: place,
-        });
-    }
+    check(at < n, Refusal::ANSWER_END, place)?;
     look_on(
         byte0,
         count,
@@ -200,26 +152,12 @@ pub fn look_at(byte0: u32, count: usize, last: bool, answer: &[u8], at: usize) -
     )
 }
 
-// 32, then 33: the refusal of an answer to a request of this byte 0 by its length and its first byte; number 0 for
-// none.
-pub fn head_refusal(byte0: u32, answer: &[u8]) -> Refusal
-    ensures { result ≡ head_fault byte0 answer.now }
+// 32, then 33: whether an answer to a request of this byte 0 has a right length and the first byte for it.
+#[tactic(auto, using(crate::proofs::Laws::Looking::some_bytes), unfolding(crate::specs::Answer::head_fault))]
+pub fn check_head(byte0: u32, answer: &[u8]) -> Result<(), Refusal>
+    ensures { result ≡ as_result (head_fault byte0 answer.now) }
 {
-    if !limits::length_ok(answer.len()) {
-        return Refusal::of(Refusal::ANSWER_LENGTH);
-    }
-    if u32::from(answer[0]) != answer_byte(byte0) {
-        return Refusal::of(Refusal::ANSWER_BYTE_0);
-    }
-    Refusal::of(Refusal::NONE)
-}
-
-// The refusal that a look at an answer's header gave.
-pub fn refusal_of(look: Look) -> Refusal
-    ensures { result ≡ look_refusal look }
-{
-    match look {
-        Look::Item(_) => Refusal::of(Refusal::NONE),
-        Look::Refused(refusal) => refusal,
-    }
+    check(limits::length_ok(answer.len()), Refusal::ANSWER_LENGTH, 0)?;
+    let same = u32::from(answer[0]) == answer_byte(byte0);
+    check(same, Refusal::ANSWER_BYTE_0, 0)
 }

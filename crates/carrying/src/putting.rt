@@ -51,7 +51,7 @@ fn head(byte: u32, status: Status, count: usize, last: bool) -> u32
     requires count_bound { count < 4096 }
     ensures { result ≡ header_from byte (code_of status) count last }
 {
-    header::header_from(byte, answer::code(status), count, last)
+    header::header_from(byte, u32::from(status), count, last)
 }
 
 // The same, put at word n of the answer.

@@ -61,12 +61,10 @@ in-message =
 pub in-answer : InAnswer
 in-answer =
     record {
-      code = λ M 𝓤 𝓛 mem run κs a g one other. first_of 𝓤;
       answer-byte = λ M 𝓤 𝓛 mem run κs a g one other. first_of 𝓤;
-      answer-fault = λ M 𝓤 𝓛 mem run κs a g one other. one_of 𝓤;
+      look-on = λ M 𝓤 𝓛 mem run κs a g one other. one_of 𝓤;
       look_at = λ M 𝓤 𝓛 mem run κs a g one other. one_of 𝓤;
-      head-refusal = λ M 𝓤 𝓛 mem run κs a g one other. one_of 𝓤;
-      refusal-of = λ M 𝓤 𝓛 mem run κs a g one other. one_of 𝓤;
+      check-head = λ M 𝓤 𝓛 mem run κs a g one other. one_of 𝓤;
     }
 
 pub in_memory : InMemory

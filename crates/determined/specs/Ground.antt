@@ -43,12 +43,10 @@ use Rattle.message.specs.contracts.discovery.bytes as BytesOf
 use Rattle.message.specs.contracts.faults.count_ok as CountOk
 use Rattle.message.specs.contracts.faults.pattern_ok as PatternOk
 use Rattle.message.specs.contracts.walk.walk as Walk
-use Rattle.answer.specs.contracts.code as Code
 use Rattle.answer.specs.contracts.answer_byte as AnswerByte
-use Rattle.answer.specs.contracts.answer_fault as AnswerFault
+use Rattle.answer.specs.contracts.look_on as LookOn
 use Rattle.answer.specs.contracts.look_at as LookAt
-use Rattle.answer.specs.contracts.head_refusal as HeadRefusal
-use Rattle.answer.specs.contracts.refusal_of as RefusalOf
+use Rattle.answer.specs.contracts.check_head as CheckHead
 use Rattle.memory.specs.contracts.moves.outside as Outside
 use Rattle.memory.specs.contracts.moves.store as Store
 use Rattle.memory.specs.contracts.moves.store_all as StoreAll
@@ -115,12 +113,10 @@ pub record InMessage : Type 2 where
 
 -- `answer`
 pub record InAnswer : Type 2 where
-  pub code : Determined Code.ended (λ M 𝓤. Code.clauses) (λ κs r e. r)
   pub answer-byte : Determined AnswerByte.ended (λ M 𝓤. AnswerByte.clauses) (λ κs r e. r)
-  pub answer-fault : Determined AnswerFault.ended (λ M 𝓤. AnswerFault.clauses) (λ κs r e. r)
+  pub look-on : Determined LookOn.ended (λ M 𝓤. LookOn.clauses) (λ κs r e. r)
   pub look_at : Determined LookAt.ended (λ M 𝓤. LookAt.clauses) (λ κs r e. r)
-  pub head-refusal : Determined HeadRefusal.ended (λ M 𝓤. HeadRefusal.clauses) (λ κs r e. r)
-  pub refusal-of : Determined RefusalOf.ended (λ M 𝓤. RefusalOf.clauses) (λ κs r e. r)
+  pub check-head : Determined CheckHead.ended (λ M 𝓤. CheckHead.clauses) (λ κs r e. r)
 
 -- `memory`
 pub record InMemory : Type 2 where

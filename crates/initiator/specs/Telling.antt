@@ -1,5 +1,5 @@
 -- What the calls inside `told` go by; nobody else needs to read it. Assumes nothing.
-use Rattle.std.specs.Prelude.{ℕ, ◌+◌, ◌≡◌, cond, List, get_or, eqb}
+use Rattle.std.specs.Prelude.{ℕ, ◌+◌, ◌≡◌, cond, List, get_or, eqb, Result}
 use Rattle.word.specs.Words.{Bytes}
 use Rattle.header.specs.declared.Kind.{Kind}
 use Rattle.header.specs.declared.refusal.Refusal.{Refusal}
@@ -7,7 +7,7 @@ use Rattle.header.specs.Header.{count_of, last_of}
 use Rattle.message.specs.Request.{Request, Reading, Refused, Means}
 use Rattle.message.specs.Walk.{read}
 use Rattle.answer.specs.declared.Status.{Status}
-use Rattle.answer.specs.declared.Look.{Look}
+use Rattle.answer.specs.declared.Seen.{Seen}
 use Rattle.answer.specs.Answer.{Answered, look_at, answers_from}
 use Rattle.initiator.specs.declared.outcome.Ending.{Ending}
 use Rattle.initiator.specs.declared.outcome.Ending.TheVariants.{Absent, Ended}
@@ -38,7 +38,7 @@ with_item told k kind at status count =
     (counting told told.ending (record { start = told.start; end = told.end }))
 
 -- what stands at word `back` of the answer, beside the command whose header stands at word `at` of the request
-unfoldable pub look_beside : List ℕ → List ℕ → ℕ → ℕ → ℕ → Look
+unfoldable pub look_beside : List ℕ → List ℕ → ℕ → ℕ → ℕ → Result Seen Refusal
 look_beside asked ws byte0 at back = look_at byte0 (count_of (get_or asked at 0)) (last_of (get_or asked at 0)) ws back
 
 -- a request that was accepted, and its byte 0

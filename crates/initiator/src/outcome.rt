@@ -12,7 +12,7 @@ ghost use Rattle.initiator.specs.Telling.{refused_with, with_item, look_beside, 
 
 use crate::asking;
 use crate::asking::Asking;
-use answer::{Look, Seen, Status};
+use answer::{Seen, Status};
 use header::Kind;
 use header::refusal::Refusal;
 
@@ -115,7 +115,13 @@ fn with_item(told: Outcome, k: usize, byte0: u32, at: usize, seen: Seen) -> Outc
 }
 
 // What stands at word `back` of the answer, beside the command whose header stands at word `at` of the request.
-fn look_beside(request: &[u8], answer: &[u8], byte0: u32, at: usize, back: usize) -> Look
+fn look_beside(
+    request: &[u8],
+    answer: &[u8],
+    byte0: u32,
+    at: usize,
+    back: usize,
+) -> Result<Seen, Refusal>
     requires at_in_bounds { 4 * at + 4 ≤ length request.now }
     requires back_le_limit { back ≤ limit }
     ensures { result ≡ look_beside (words_of request.now) (words_of answer.now) byte0 at back }
@@ -144,9 +150,9 @@ fn look_through(request: &[u8], answer: &[u8], byte0: u32, k: usize) -> Outcome
     let mut at: usize = 0;
     let mut back: usize = 0;
     loop {
-        let look = look_beside(request, answer, byte0, at, back);
-        let Look::Item(seen) = look else {
-            return refused(answer::refusal_of(look));
+        let seen = match look_beside(request, answer, byte0, at, back) {
+            Ok(seen) => seen,
+            Err(refusal) => return refused(refusal),
         };
         told = with_item(told, k, byte0, back, seen);
         if seen.last {
@@ -163,8 +169,7 @@ pub(crate) fn told_by(request: &[u8], answer: &[u8], byte0: u32, k: usize) -> Ou
     requires { Ready request.now byte0 }
     ensures { result ≡ told_of (kind_of byte0) k (judged_in (read request.now) answer.now) }
 {
-    let refusal = answer::head_refusal(byte0, answer);
-    if refusal.number != 0 {
+    if let Err(refusal) = answer::check_head(byte0, answer) {
         return refused(refusal);
     }
     look_through(request, answer, byte0, k)

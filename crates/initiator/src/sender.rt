@@ -12,7 +12,7 @@ ghost use Rattle.initiator.specs.Sender.{started_at, start_of};
 
 use crate::asking::Asking;
 use crate::{asking, outcome, places};
-use answer::{Look, Status};
+use answer::Status;
 use header::refusal::Refusal;
 use header::{Kind, limits};
 
@@ -72,19 +72,16 @@ impl Sender {
         ensures { result ≡ start_of answer.now }
     {
         let byte0 = header::byte0_from(0, Kind::Nop, false, true);
-        let refusal = answer::head_refusal(byte0, answer);
-        if refusal.number != 0 {
+        if let Err(refusal) = answer::check_head(byte0, answer) {
             return spoilt(refusal);
         }
-        let look = answer::look_at(byte0, 2, true, answer, 0);
-        let Look::Item(seen) = look else {
-            return spoilt(answer::refusal_of(look));
+        let seen = match answer::look_at(byte0, 2, true, answer, 0) {
+            Ok(seen) => seen,
+            Err(refusal) => return spoilt(refusal),
         };
-        let status = seen.status;
-        match status {
+        match seen.status {
             Status::Ok => started(word::word_at(answer, 2)),
-            Status::Timeout => spoilt(Refusal::of(Refusal::DISCOVERY)),
-            Status::Error => spoilt(Refusal::of(Refusal::DISCOVERY)),
+            Status::Timeout | Status::Error => spoilt(Refusal::of(Refusal::DISCOVERY)),
         }
     }
 }

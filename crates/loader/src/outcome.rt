@@ -34,7 +34,7 @@ fn ending_no(ending: Ending) -> u32
 {
     match ending {
         Ending::Absent => ABSENT,
-        Ending::Ended(status) => answer::code(status),
+        Ending::Ended(status) => u32::from(status),
     }
 }
 

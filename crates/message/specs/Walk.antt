@@ -6,7 +6,7 @@ use Rattle.word.specs.Words.{words_of}
 use Rattle.header.specs.declared.refusal.Refusal.{Refusal}
 use Rattle.header.specs.Limits.{limit, length_ok}
 use Rattle.header.specs.Header.{kind_of, byte1_of, count_of, address_words, data_words, head_of}
-use Rattle.header.specs.Refusal.{refused_at, refusal}
+use Rattle.header.specs.Refusal.{refused_at, refusal, result_of}
 use Rattle.header.specs.declared.Head.{Head}
 use Rattle.message.specs.Faults.{fault_of}
 use Rattle.message.specs.Request.{Command, Request, Reading, before, replies, Refused, Means}
@@ -14,9 +14,7 @@ use Rattle.message.specs.Address.{address_from}
 
 -- the header at word `at` as it was read, or its refusal
 unfoldable pub step_on : ℕ → ℕ → ℕ → ℕ → ℕ → Result Head Refusal
-step_on byte0 at h left address =
-    cond (eqb (fault_of byte0 h left address) 0) (Ok (head_of byte0 h))
-    (Err (refused_at (fault_of byte0 h left address) at))
+step_on byte0 at h left address = result_of (refused_at (fault_of byte0 h left address) at) (head_of byte0 h)
 
 -- the command of the header h and the words that follow it
 unfoldable pub command_of : ℕ → ℕ → List ℕ → Command

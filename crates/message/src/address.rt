@@ -6,6 +6,7 @@ ghost use Rattle.message.specs.Address.{address_from, address_in, address_top};
 
 // The address of the command whose header stands at word `at`: one word, or two with the low one first; 0 where its
 // kind has none.
+#[tactic(auto, using(crate::proofs::Laws::Addresses::by_words))]
 pub fn address_at(byte0: u32, datagram: &[u8], at: usize) -> u64
     requires { 4 * (at + 1 + address_words byte0) ≤ length datagram.now }
     ensures { result ≡ address_from (address_words byte0) (drop (at + 1) (words_of datagram.now)) }
@@ -21,6 +22,7 @@ pub fn address_at(byte0: u32, datagram: &[u8], at: usize) -> u64
 }
 
 // The words of an address, into the output from word `at` on.
+#[tactic(auto, using(crate::proofs::Laws::Addresses::by_words))]
 pub fn put_address(out: &mut [u8], at: usize, n: usize, address: u64)
     requires { (n ≤ 2)
         × (address < address_top n)

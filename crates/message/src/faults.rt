@@ -88,6 +88,7 @@ fn count_fits(byte0: u32, h: u32) -> bool
 
 // Whether the header h, at word `at` of a datagram, may have its enables: only a write's are looked at, and of its
 // address the lowest word, which tells a multiple of 8.
+#[tactic(auto, using(crate::proofs::Laws::Faults::enables_low))]
 fn enables_fit(byte0: u32, h: u32, datagram: &[u8], at: usize) -> bool
     requires { 4 * (at + 1 + address_words byte0) ≤ length datagram.now }
     ensures { result ≡ enables_ok (kind_of byte0) (count_of h)

@@ -20,7 +20,7 @@ fn command(rt: &impl Print, answer: &[u8], k: usize) -> io::Result<()> {
     print!(rt; "command {k}: ")?;
     match outcome::ended(request, answer, k) {
         Ending::Absent => print!(rt; "absent")?,
-        Ending::Ended(status) => print!(rt; "status {}", answer::code(status))?,
+        Ending::Ended(status) => print!(rt; "status {}", u32::from(status))?,
     }
     let span = outcome::read_span(request, answer, k);
     let data = Bytes(outcome::read_data(request, answer, k));

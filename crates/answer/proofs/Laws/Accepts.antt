@@ -20,14 +20,14 @@ use Rattle.header.proofs.Laws.Limits.{right}
 use Rattle.message.specs.Request.{Command, Request, Refused, Means, before, replies, none, FitsCommand, All, Fits}
 use Rattle.message.proofs.Laws.Faults.{no-mean, past, before-is}
 use Rattle.message.proofs.Laws.Round.{length-right, ends_at}
-use Rattle.answer.specs.declared.Look.TheVariants.{Item, Refused as RefusedLook}
+use Rattle.std.specs.Prelude.{Ok, Err}
 use Rattle.answer.specs.Answer.{Answered, code_of, status_no, answer_byte, stops, answer_fault, seen_of, look_on, look_turn, answers_from, judge, answered_words, answer_words, encode_answer, FitsAnswered, FitsAnswers}
 use Rattle.answer.specs.Promises.{JudgeEncoded, EncodeJudged}
 use Rattle.answer.specs.Exactly.{AcceptsExactly}
 use Rattle.answer.proofs.Laws.Heads.{status-code, code-status, code_lt, answer_lt, wanted-le, wanted-reply, Fair, fair, fair-fault}
 
 -- a look by its header's fault
-look-item : (byte0 count : ℕ) (last : Bool) (at h left : ℕ) → answer_fault byte0 count last h left ≡ 0 → look_on byte0 count last at h left ≡ Item (seen_of h)
+look-item : (byte0 count : ℕ) (last : Bool) (at h left : ℕ) → answer_fault byte0 count last h left ≡ 0 → look_on byte0 count last at h left ≡ Ok (seen_of h)
 unfolding look_on
 look-item byte0 count last at h left e = rw (eq-eqb _ _ e)
 
@@ -75,7 +75,7 @@ module _ (byte0 : ℕ) where
     pub answered-back : (at : ℕ) → answers_from byte0 at (c ∷ cs) (answered_words (answer_byte byte0) b a ++ r) ≡ cond b (Means (a ∷ [])) (before a (answers_from byte0 (at + 1 + n) cs r))
     unfolding answers_from answered_words seen_of
     answered-back at =
-        let look : look_on byte0 c.count (none cs) at h (length (a.payload ++ r)) ≡ Item (seen_of h) =
+        let look : look_on byte0 c.count (none cs) at h (length (a.payload ++ r)) ≡ Ok (seen_of h) =
         rw (length-append a.payload r) (look-item byte0 c.count (none cs) at h _ (fair-fault byte0 c.count (none cs) h _ fair-header)) in
         rw (
           look,
@@ -203,7 +203,7 @@ module _ (byte0 : ℕ) where
 
       go : ((n : ℕ) (x : List Answered) → answers_from byte0 (at + 1 + n) cs (drop n rest) ≡ Means x → Answer cs (drop n rest) x)
           → (b : Bool) → eqb (answer_fault byte0 c.count (none cs) h (length rest)) 0 ≡ b
-          → look_turn (cond b (Item (seen_of h)) (RefusedLook (refused_at (answer_fault byte0 c.count (none cs) h (length rest)) at))) rest (λ n. answers_from byte0 (at + 1 + n) cs (drop n rest)) ≡ Means items
+          → look_turn (cond b (Ok (seen_of h)) (Err (refused_at (answer_fault byte0 c.count (none cs) h (length rest)) at))) rest (λ n. answers_from byte0 (at + 1 + n) cs (drop n rest)) ≡ Means items
           → Answer (c ∷ cs) (h ∷ rest) items
       go ih false z x = no-mean x
       go ih true z x = by (fair byte0 c.count (none cs) h (length rest) (eqb-true _ _ z)) ih (last_of h) refl x

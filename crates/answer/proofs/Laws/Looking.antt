@@ -11,20 +11,25 @@ use lib.ListN.{length, get_or, take, drop, length-drop, drop_of_length-le}
 use lib.Seq.{drop-cons, drop-drop, length-take-le}
 use Rattle.word.specs.Words.{words_of}
 use Rattle.header.specs.Header.{count_of, last_of, byte1_of}
+use Rattle.header.specs.declared.refusal.Refusal.{Refusal}
 use Rattle.header.specs.Refusal.{refused_at, refusal, unless}
 use Rattle.header.specs.Limits.{length_ok}
+use Rattle.header.proofs.Laws.Limits.{right}
 use Rattle.message.specs.Request.{Command, Request, Reading, Refused, Means, before, none}
 use Rattle.message.proofs.Laws.Faults.{past}
 use Rattle.answer.specs.declared.Seen.{Seen}
-use Rattle.answer.specs.declared.Look.{Look}
-use Rattle.answer.specs.declared.Look.TheVariants.{Item, Refused as RefusedLook}
+use Rattle.std.specs.Prelude.{Ok, Err, Result}
 use Rattle.answer.specs.Answer.{Answered, status_no, answer_byte, wanted, answer_fault, seen_of, look_on, look_at, look_turn, answers_from, head_fault, judge}
 use Rattle.answer.proofs.Laws.Heads.{stops-clear, fair}
 
+-- a datagram of a right length has a byte
+pub some_bytes : (n : ℕ) → length_ok n ≡ true → 0 < n
+some_bytes n e = (right n e).some
+
 -- a look whose words behind it answer the same
-look-same : (l : Look) (rest : List ℕ) (f g : ℕ → Reading (List Answered)) → ((n : ℕ) → f n ≡ g n) → look_turn l rest f ≡ look_turn l rest g
-look-same (RefusedLook r) rest f g h = refl
-look-same (Item s) rest f g h = rw (h s.count)
+look-same : (l : Result Seen Refusal) (rest : List ℕ) (f g : ℕ → Reading (List Answered)) → ((n : ℕ) → f n ≡ g n) → look_turn l rest f ≡ look_turn l rest g
+look-same (Err r) rest f g h = refl
+look-same (Ok s) rest f g h = rw (h s.count)
 
 -- the answer to the next command, at its position
 pub looked : (byte0 : ℕ) (c : Command) (cs : List Command) (ws : List ℕ) (at : ℕ)
@@ -35,7 +40,7 @@ looked byte0 c cs ws at = go (ltb at (length ws)) refl
   where
     go : (b : Bool) → ltb at (length ws) ≡ b
         → answers_from byte0 at (c ∷ cs) (drop at ws)
-        ≡ look_turn (cond b (look_on byte0 c.count (none cs) at (get_or ws at 0) (length ws - at - 1)) (RefusedLook (refused_at 35 at))) (drop (at + 1) ws) (λ n. answers_from byte0 (at + 1 + n) cs (drop (at + 1 + n) ws))
+        ≡ look_turn (cond b (look_on byte0 c.count (none cs) at (get_or ws at 0) (length ws - at - 1)) (Err (refused_at 35 at))) (drop (at + 1) ws) (λ n. answers_from byte0 (at + 1 + n) cs (drop (at + 1 + n) ws))
     go false z = rw (drop_of_length-le ws (ltb-false at (length ws) z))
     go true z =
         let l = ltb-true at (length ws) z in
@@ -53,12 +58,12 @@ pub record Found (byte0 count : ℕ) (last : Bool) (ws : List ℕ) (at : ℕ) (s
   pub long : length (take s.count (drop (at + 1) ws)) ≡ s.count
   pub more : s.last ≡ false → last ≡ false
 
-pub found : (byte0 count : ℕ) (last : Bool) (ws : List ℕ) (at : ℕ) (s : Seen) → look_at byte0 count last ws at ≡ Item s → Found byte0 count last ws at s
+pub found : (byte0 count : ℕ) (last : Bool) (ws : List ℕ) (at : ℕ) (s : Seen) → look_at byte0 count last ws at ≡ Ok s → Found byte0 count last ws at s
 unfolding look_at look_on seen_of
 found byte0 count last ws at s e = go (ltb at (length ws)) refl (eqb (answer_fault byte0 count last (get_or ws at 0) (length ws - at - 1)) 0) refl e
   where
     go : (a : Bool) → ltb at (length ws) ≡ a → (b : Bool) → eqb (answer_fault byte0 count last (get_or ws at 0) (length ws - at - 1)) 0 ≡ b
-        → cond a (cond b (Item (seen_of (get_or ws at 0))) (RefusedLook (refused_at (answer_fault byte0 count last (get_or ws at 0) (length ws - at - 1)) at))) (RefusedLook (refused_at 35 at)) ≡ Item s
+        → cond a (cond b (Ok (seen_of (get_or ws at 0))) (Err (refused_at (answer_fault byte0 count last (get_or ws at 0) (length ws - at - 1)) at))) (Err (refused_at 35 at)) ≡ Ok s
         → Found byte0 count last ws at s
     go false z b y e = let n : ◌≡◌ {A = ℕ} 0 1 = cc in absurd (omega arith)
     go true z false y e = let n : ◌≡◌ {A = ℕ} 0 1 = cc in absurd (omega arith)
@@ -107,7 +112,7 @@ answers-some byte0 at (c ∷ cs) [] = omega arith
 answers-some byte0 at (c ∷ cs) (h ∷ rest) = go (λ n. answers-some byte0 (at + 1 + n) cs (drop n rest)) (eqb (answer_fault byte0 c.count (none cs) h (length rest)) 0) refl
   where
     go : ((n : ℕ) → Some (answers_from byte0 (at + 1 + n) cs (drop n rest))) → (b : Bool) → eqb (answer_fault byte0 c.count (none cs) h (length rest)) 0 ≡ b
-        → Some (look_turn (cond b (Item (seen_of h)) (RefusedLook (refused_at (answer_fault byte0 c.count (none cs) h (length rest)) at))) rest (λ n. answers_from byte0 (at + 1 + n) cs (drop n rest)))
+        → Some (look_turn (cond b (Ok (seen_of h)) (Err (refused_at (answer_fault byte0 c.count (none cs) h (length rest)) at))) rest (λ n. answers_from byte0 (at + 1 + n) cs (drop n rest)))
     go ih false z = let n = eqb-false (answer_fault byte0 c.count (none cs) h (length rest)) 0 z in omega arith
     go ih true z = some-last (last_of h) _ _ (some-before _ (answers_from byte0 (at + 1 + count_of h) cs (drop (count_of h) rest)) (ih (count_of h)))
 

@@ -19,7 +19,7 @@ use Rattle.header.proofs.Laws.Refusal.{Between, unless-between, Further, further
 use Rattle.message.specs.Request.{Command, Request, Refused, Means, before, none, FitsCommand, All, Fits}
 use Rattle.message.proofs.Laws.Faults.{no-mean, same-refusal, before-wrong}
 use Rattle.message.proofs.Laws.Round.{none_before}
-use Rattle.answer.specs.declared.Look.TheVariants.{Item, Refused as RefusedLook}
+use Rattle.std.specs.Prelude.{Ok, Err}
 use Rattle.answer.specs.Answer.{Answered, status_no, answer_byte, wanted, stops, answer_fault, seen_of, look_on, look_turn, answers_from, judge, answered_words}
 use Rattle.answer.specs.Promises.{JudgeRange}
 use Rattle.answer.specs.Exactly.{open_answers, AllOk, answer_fault_in, AnswerFaultAfter, RefusesExactly}
@@ -104,14 +104,14 @@ after-judge byte0 at (c ∷ cs) (h ∷ rest) r s e m =
 
     go : ((n : ℕ) → none cs ≡ false → answers_from byte0 (at + 1 + n) cs (drop n rest) ≡ Refused r → Fault byte0 (at + 1 + n) r cs (drop n rest))
         → (b : Bool) → eqb fault 0 ≡ b
-        → look_turn (cond b (Item (seen_of h)) (RefusedLook (refused_at fault at))) rest (λ n. answers_from byte0 (at + 1 + n) cs (drop n rest)) ≡ Refused r
+        → look_turn (cond b (Ok (seen_of h)) (Err (refused_at fault at))) rest (λ n. answers_from byte0 (at + 1 + n) cs (drop n rest)) ≡ Refused r
         → Fault byte0 at r (c ∷ cs) (h ∷ rest)
     go ih false z x = here z (same-refusal x)
     go ih true z x = by (fair byte0 c.count (none cs) h (length rest) (eqb-true _ _ z)) ih (last_of h) refl x
 
 -- a look by its header's fault
 look-bad : (byte0 count : ℕ) (last : Bool) (at h left : ℕ) → (answer_fault byte0 count last h left ≡ 0 → ⊥)
-    → look_on byte0 count last at h left ≡ RefusedLook (refused_at (answer_fault byte0 count last h left) at)
+    → look_on byte0 count last at h left ≡ Err (refused_at (answer_fault byte0 count last h left) at)
 unfolding look_on
 look-bad byte0 count last at h left e = rw (ne_eqb _ _ e)
 

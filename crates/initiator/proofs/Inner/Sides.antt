@@ -22,8 +22,7 @@ use Rattle.message.proofs.Laws.Back.{written_read}
 use Rattle.message.proofs.Laws.Standing.{Stands, Next, stands-starts, stands-next}
 use Rattle.answer.specs.declared.Status.{Status}
 use Rattle.answer.specs.declared.Seen.{Seen}
-use Rattle.answer.specs.declared.Look.{Look}
-use Rattle.answer.specs.declared.Look.TheVariants.{Item, Refused as RefusedLook}
+use Rattle.std.specs.Prelude.{Result, Ok, Err}
 use Rattle.answer.specs.Answer.{Answered, look_at, look_turn, answers_from}
 use Rattle.answer.proofs.Laws.Looking.{looked, Found, found}
 use Rattle.initiator.specs.declared.outcome.Ending.TheVariants.{Absent, Ended}
@@ -131,7 +130,7 @@ module _ {asked : List ℕ} {byte0 : ℕ} {ws : List ℕ} {at back k : ℕ} {tol
   next = stands-next byte0 asked at g.command g.behind g.stands
 
   -- the header that was looked at is the answer to this command
-  look_is : (l : Look) → look_beside asked ws byte0 at back ≡ l → look_at byte0 g.command.count (none g.behind) ws back ≡ l
+  look_is : (l : Result Seen Refusal) → look_beside asked ws byte0 at back ≡ l → look_at byte0 g.command.count (none g.behind) ws back ≡ l
   unfolding look_beside
   look_is l e = rw (next.count, next.last) at e
 
@@ -140,13 +139,13 @@ module _ {asked : List ℕ} {byte0 : ℕ} {ws : List ℕ} {at back k : ℕ} {tol
       ≡ whole
   on = ap (gathered k (kind_of byte0) back told) (sym (looked byte0 g.command g.behind ws back)) ∙ g.same
 
-  pub sides-bad : (r : Refusal) → look_beside asked ws byte0 at back ≡ RefusedLook r → refused_with r ≡ whole
+  pub sides-bad : (r : Refusal) → look_beside asked ws byte0 at back ≡ Err r → refused_with r ≡ whole
   unfolding gathered
-  sides-bad r e = rw (look_is (RefusedLook r) e) at on
+  sides-bad r e = rw (look_is (Err r) e) at on
 
-  module _ (s : Seen) (e : look_beside asked ws byte0 at back ≡ Item s) where
+  module _ (s : Seen) (e : look_beside asked ws byte0 at back ≡ Ok s) where
     pub sides-found : Found byte0 g.command.count (none g.behind) ws back s
-    sides-found = found byte0 g.command.count (none g.behind) ws back s (look_is (Item s) e)
+    sides-found = found byte0 g.command.count (none g.behind) ws back s (look_is (Ok s) e)
 
     abbrev new : Outcome
     new = with_item told k (kind_of byte0) back s.status s.count
@@ -156,7 +155,7 @@ module _ {asked : List ℕ} {byte0 : ℕ} {ws : List ℕ} {at back k : ℕ} {tol
 
     -- the whole, one answer on
     turned : gathered k (kind_of byte0) back told (cond s.last (Means (item ∷ [])) (before item (answers_from byte0 (back + 1 + s.count) g.behind (drop (back + 1 + s.count) ws)))) ≡ whole
-    turned = rw (look_is (Item s) e) at on
+    turned = rw (look_is (Ok s) e) at on
 
     pub sides-last : s.last ≡ true → new ≡ whole
     unfolding gathered gather

@@ -20,7 +20,7 @@ use Rattle.message.proofs.Laws.Fixed.{discovery-kind}
 use Rattle.answer.specs.declared.Status.{Status}
 use Rattle.answer.specs.declared.Status.TheVariants.{Ok}
 use Rattle.answer.specs.declared.Seen.{Seen}
-use Rattle.answer.specs.declared.Look.TheVariants.{Item, Refused}
+use Rattle.std.specs.Prelude.{Ok as OkResult, Err}
 use Rattle.answer.specs.Answer.{Answered, wanted, look_at, look_turn, answers_from, head_fault, judge}
 use Rattle.answer.proofs.Laws.Looking.{judge-passed, judge-refused, looked, Found, found}
 use Rattle.initiator.specs.declared.sender.Moved.{Moved}
@@ -50,10 +50,10 @@ module _ (answer : List ℕ) (byte0 : ℕ) (is : byte0 ≡ discovery_byte) where
     unfolding start_of
     looks = rw (judge-passed discovery_request answer (rw is at pass), is, looked discovery_byte discovery_command [] ws 0)
 
-    pub start-bad : (r : Refusal) → look_at byte0 2 true ws 0 ≡ Refused r → spoiled r ≡ start_of answer
+    pub start-bad : (r : Refusal) → look_at byte0 2 true ws 0 ≡ Err r → spoiled r ≡ start_of answer
     start-bad r e = rw (looks, e)
 
-    module _ (s : Seen) (e : look_at byte0 2 true ws 0 ≡ Item s) where
+    module _ (s : Seen) (e : look_at byte0 2 true ws 0 ≡ OkResult s) where
       pub start-found : Found byte0 2 true ws 0 s
       start-found = found byte0 2 true ws 0 s e
 

@@ -110,3 +110,6 @@ put_two l at n a e h p q = rw (e, in_two a) (q ∙ rw p (words-words l at (a % 4
 
 pub one-top : (n a : ℕ) → n ≡ 1 → a < address_top n → a < 4294967296
 one-top n a e h = rw (e, top_one) at h
+
+-- an address read and put, by how many words it has
+pub ruleset by_words = (from-none, from_one, from-two, put-none, put_one, put_two)

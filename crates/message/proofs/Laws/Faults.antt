@@ -9,6 +9,7 @@ use borrow.Author.Tests.{eqb-true, eqb-false, leb-true, eq-eqb, ne_eqb, le-leb}
 use lib.Dec.{leb, eqb}
 use lib.ListN.{length, get_or, drop}
 use lib.Seq.{get_or-drop}
+use Rattle.word.proofs.Crossing.{length-words_of}
 use Rattle.header.specs.declared.refusal.Refusal.{Refusal}
 use Rattle.header.specs.declared.Kind.{Kind}
 use Rattle.header.specs.declared.Kind.TheVariants.{Nop, Write, Read as Reads, Response}
@@ -21,6 +22,9 @@ use Rattle.message.specs.Faults.{asks, is_write, count_ok, gaps_ok, first_field_
 use Rattle.message.specs.Walk.{step_on, commands_from}
 use Rattle.message.specs.Request.{Reading, Refused, Means, before}
 use Rattle.message.specs.Address.{address_from}
+
+-- how many words a datagram has
+pub ruleset counted_words = (length-words_of)
 
 -- what stands in a header without fault
 pub record Sound (byte0 h left address : ℕ) : Type 0 where
@@ -68,22 +72,30 @@ faultless byte0 h left address s =
     )
 
 -- a write's kind
-pub write-is : (k : Kind) → is_write k ≡ true → k ≡ Write
-write-is Nop e = absurd (false≢true e)
-write-is Write e = refl
-write-is Reads e = absurd (false≢true e)
-write-is Response e = absurd (false≢true e)
+pub write_is : (k : Kind) → is_write k ≡ true → k ≡ Write
+write_is Nop e = absurd (false≢true e)
+write_is Write e = refl
+write_is Reads e = absurd (false≢true e)
+write_is Response e = absurd (false≢true e)
 
--- a write of one word, the header's bits 30:12 being 16: no fault, whatever its address, if its body is there and nothing follows it
--- where it is LAST
-pub short-faultless : (byte0 h left : ℕ) → kind_of byte0 ≡ Write → byte0_of h ≡ byte0 → h / 4096 % 524288 ≡ 16
-    → address_words byte0 + 1 ≤ left → ends_ok (last_of h) (address_words byte0 + 1) left ≡ true → (count_of h ≡ 1) × ((address : ℕ) → fault_of byte0 h left address ≡ 0)
+-- a body that stands, and the last of its words where its header is LAST
+standing : (last : Bool) (body left : ℕ) → cond last (eqb left body) (leb body left) ≡ true → (body ≤ left) × (ends_ok last body left ≡ true)
+standing true body left e = let same = eqb-true left body e in (omega arith, e)
+standing false body left e = (leb-true _ _ e, refl)
+
+-- a write of one word, the header's bits 30:12 being 16: no fault, whatever its address, if its body stands
+pub short_faultless : (byte0 h left : ℕ) → is_write (kind_of byte0) ≡ true → byte0_of h ≡ byte0 → h / 4096 % 524288 ≡ 16
+    → cond (last_of h) (eqb left (address_words byte0 + 1)) (leb (address_words byte0 + 1) left) ≡ true
+    → (kind_of byte0 ≡ Write) × (count_of h ≡ 1) × ((address : ℕ) → fault_of byte0 h left address ≡ 0)
 unfolding pattern_ok
-short-faultless byte0 h left kind same bits fits ends =
+short_faultless byte0 h left writes same bits there =
+    let kind = write_is (kind_of byte0) writes in
+    let stands = standing (last_of h) (address_words byte0 + 1) left there in
     let one : count_of h ≡ 1 = omega (arith, bits) in
     let last : byte1_of h / 16 ≡ 0 = omega (arith, bits) in
     let high : h / 268435456 ≡ 8 * (h / 4096 / 524288) = sym (div-div-eq-div-mul h 4096 65536) ∙ omega (arith, bits) in
     let body : body_words byte0 (count_of h) ≡ address_words byte0 + 1 = rw (kind, one) in (
+      kind,
       one,
       λ address. faultless byte0 h left address
           (record {
@@ -92,15 +104,15 @@ short-faultless byte0 h left kind same bits fits ends =
             clear = rw high (mul-mod_right 8 _);
             counted = rw (kind, one);
             enabled = rw (kind, one, last);
-            within = rw body fits;
-            ends = rw body ends;
+            within = rw body stands.0;
+            ends = rw body stands.1;
           }),
     )
 
 -- a read of some words, the header's bits 31:28 being 8: no fault, if its address and nothing else follows it
-pub read-faultless : (byte0 h left : ℕ) → kind_of byte0 ≡ Reads → byte0_of h ≡ byte0 → h / 268435456 ≡ 8
+pub read_faultless : (byte0 h left : ℕ) → kind_of byte0 ≡ Reads → byte0_of h ≡ byte0 → h / 268435456 ≡ 8
     → (count_of h ≡ 0 → ⊥) → left ≡ address_words byte0 → (address : ℕ) → fault_of byte0 h left address ≡ 0
-read-faultless byte0 h left kind same bits some ends address =
+read_faultless byte0 h left kind same bits some ends address =
     let last : last_of h ≡ true = rw (sym (div-div-eq-div-mul h 268435456 8), bits) in
     let none : data_words (kind_of byte0) (count_of h) ≡ 0 = rw kind in
     let body : body_words byte0 (count_of h) ≡ left = omega (arith, none, ends) in
@@ -155,18 +167,18 @@ gapless_pattern count address first last e =
     go false = refl
 
 -- of a write's address the lowest word is enough: 2^32 is a multiple of 8
-pattern-low : (wide : Bool) (count first last : ℕ) (rest : List ℕ) → pattern_ok count (get_or rest 0 0) first last ≡ pattern_ok count (address_from (1 + bit wide) rest) first last
+pattern_low : (wide : Bool) (count first last : ℕ) (rest : List ℕ) → pattern_ok count (get_or rest 0 0) first last ≡ pattern_ok count (address_from (1 + bit wide) rest) first last
 unfolding pattern_ok address_from
-pattern-low false count first last rest = refl
-pattern-low true count first last rest =
+pattern_low false count first last rest = refl
+pattern_low true count first last rest =
     let e : (get_or rest 0 0 + 4294967296 * get_or rest 1 0) % 8 ≡ get_or rest 0 0 % 8 = omega arith in
     rw e
 
-pub enables-low : (byte0 count byte1 at : ℕ) (ws : List ℕ) → kind_of byte0 ≡ Write
+pub enables_low : (byte0 count byte1 at : ℕ) (ws : List ℕ) → kind_of byte0 ≡ Write
     → pattern_ok count (get_or ws at 0) (first_field byte1) (last_field byte1) ≡ enables_ok (kind_of byte0) count (address_from (address_words byte0) (drop at ws)) byte1
-enables-low byte0 count byte1 at ws kind =
+enables_low byte0 count byte1 at ws kind =
     let low : get_or (drop at ws) 0 0 ≡ get_or ws at 0 = get_or-drop at ws 0 0 ∙ ap (λ (n : ℕ). get_or ws n 0) (add-zero at) in
-    rw (kind, ← low) (pattern-low (wide_of byte0) count (first_field byte1) (last_field byte1) (drop at ws))
+    rw (kind, ← low) (pattern_low (wide_of byte0) count (first_field byte1) (last_field byte1) (drop at ws))
 
 -- a refusal is no meaning
 pub no-mean : {A B : Type 0} {r : Refusal} {a : A} → Refused r ≡ Means a → B

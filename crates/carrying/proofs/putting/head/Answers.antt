@@ -2,4 +2,4 @@
 use Rattle.carrying.proofs.putting.head.Goals as goal
 
 pub returns : goal.returns
-returns c = rw (← c.code.ensures.value) c.header_from.ensures
+returns c = rw (← c.from.ensures.0) c.header_from.ensures

@@ -2,7 +2,6 @@
 use mathlib.Core.Path.{sym, ◌∙◌, ap}
 use native.Mathlib.Omega.{arith}
 use Rattle.word.proofs.Crossing.{length-words_of}
-use Rattle.answer.specs.Answer.{look_refusal}
 use Rattle.initiator.specs.Telling.{refused_with}
 use Rattle.initiator.proofs.Inner.Sides.{next, sides-starts, sides-bad, sides-found, sides-last, sides-next}
 use Rattle.initiator.proofs.outcome.look_through.Goals as goal
@@ -10,22 +9,21 @@ use Rattle.initiator.proofs.outcome.look_through.Goals as goal
 pub loop-seen-init : goal.loop-seen-init
 loop-seen-init c = rw (c.refused-told.ensures, c.of.ensures) (sides-starts _ _ _ _ c.requires.ready c.requires.answer_len_bound)
 
-pub look_beside-look-requires : goal.look_beside-look-requires
-look_beside-look-requires c = record { at_in_bounds = (omega (arith, (next c.loop-seen.invariant).here, length-words_of c.args.request.now)); back_le_limit = let g = c.loop-seen.invariant in omega (arith, g.within, g.most) }
+pub look_beside-requires : goal.look_beside-requires
+look_beside-requires c = record { at_in_bounds = (omega (arith, (next c.loop-seen.invariant).here, length-words_of c.args.request.now)); back_le_limit = let g = c.loop-seen.invariant in omega (arith, g.within, g.most) }
 
-pub returns-in_default : goal.returns-in_default
-returns-in_default c =
-    let t = c.in_default.is in
-    c.refused.ensures ∙ ap refused_with (c.refusal_of.ensures ∙ ap look_refusal t) ∙ sides-bad c.loop-seen.invariant _ (sym c.look_beside-look.ensures ∙ t)
+pub returns-in-Err : goal.returns-in-Err
+returns-in-Err c =
+    c.refused.ensures ∙ sides-bad c.loop-seen.invariant _ (sym c.look_beside.ensures ∙ c.in-Err.is)
 
 pub with_item-told-requires : goal.with_item-told-requires
 with_item-told-requires c =
     let g = c.loop-seen.invariant in
-    (omega (arith, g.counted, g.within, g.most), omega (arith, g.within, g.most), (sides-found g _ (sym c.look_beside-look.ensures ∙ c.in-Item.is)).small)
+    (omega (arith, g.counted, g.within, g.most), omega (arith, g.within, g.most), (sides-found g _ (sym c.look_beside.ensures ∙ c.in-Ok.is)).small)
 
 pub returns-then-seen : goal.returns-then-seen
 returns-then-seen c =
-    c.with_item-told.ensures ∙ sides-last c.loop-seen.invariant _ (sym c.look_beside-look.ensures ∙ c.in-Item.is) c.if-seen.true
+    c.with_item-told.ensures ∙ sides-last c.loop-seen.invariant _ (sym c.look_beside.ensures ∙ c.in-Ok.is) c.if-seen.true
 
 pub overflow_add-at : goal.overflow_add-at
 overflow_add-at c = omega (arith, (next c.loop-seen.invariant).here, length-words_of c.args.request.now)
@@ -43,11 +41,11 @@ overflow_add-back c = let g = c.loop-seen.invariant in omega (arith, g.within, g
 pub overflow_add-back-in-loop-seen : goal.overflow_add-back-in-loop-seen
 overflow_add-back-in-loop-seen c =
     let g = c.loop-seen.invariant in
-    omega (arith, g.within, g.most, (sides-found g _ (sym c.look_beside-look.ensures ∙ c.in-Item.is)).small)
+    omega (arith, g.within, g.most, (sides-found g _ (sym c.look_beside.ensures ∙ c.in-Ok.is)).small)
 
 pub loop-seen-smaller : goal.loop-seen-smaller
 loop-seen-smaller c = omega (arith, (next c.loop-seen.invariant).here)
 
 pub loop-seen-preserved : goal.loop-seen-preserved
 loop-seen-preserved c =
-    sides-next c.loop-seen.invariant _ (sym c.look_beside-look.ensures ∙ c.in-Item.is) c.body_at.ensures.value c.with_item-told.ensures c.if-seen.false
+    sides-next c.loop-seen.invariant _ (sym c.look_beside.ensures ∙ c.in-Ok.is) c.body_at.ensures.value c.with_item-told.ensures c.if-seen.false

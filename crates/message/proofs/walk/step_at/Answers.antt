@@ -16,10 +16,6 @@ use Rattle.message.proofs.walk.step_at.Goals as goal
 use Rattle.std.proofs.Common.{rules}
 use Rattle.word.proofs.Rules.{tests}
 
-pub returns-in_err-check : goal.returns-in_err-check
-unfolding step_at
-returns-in_err-check c = search (rules, tests, length-words_of)
-
 pub returns-then-short_write : goal.returns-then-short_write
 unfolding step_at head_of
 returns-then-short_write c =
@@ -28,10 +24,6 @@ returns-then-short_write c =
     let address = address_from (address_words a.byte0) (drop (a.at + 1) (words_of a.datagram.now)) in
     rw (length-words_of a.datagram.now, ← c.word_at-h.ensures, check-passed _ _ c.in_ok-check.ensures, step-read _ _ _ _ _ (s.2 address))
     (simp (s.0, s.1, c.byte1.ensures.value, c.address_words.ensures.value, c.last.ensures))
-
-pub returns-in_err-fault : goal.returns-in_err-fault
-unfolding step_at step_on
-returns-in_err-fault c = search (rules, tests, length-words_of)
 
 pub returns : goal.returns
 unfolding step_at
