@@ -17,6 +17,10 @@ unfoldable pub digits_in : ℕ → ℕ → List ℕ
 digits_in zero n = []
 digits_in (suc k) n = cond (ltb n 10) ((48 + n) ∷ []) (digits_in k (n / 10) ++ ((48 + n % 10) ∷ []))
 
+-- the bytes of a line's buffer
+abbrev pub line_bytes : ℕ
+line_bytes = 80
+
 -- a number in decimal: 20 digits hold every number of 64 bits
 abbrev pub most_digits : ℕ
 most_digits = 20

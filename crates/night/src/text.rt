@@ -1,6 +1,6 @@
 // A line of text, written piece by piece, and the lines of a replay.
 ghost use Rattle.std.specs.Prelude.{◌≡◌, ◌+◌, ◌≤◌, ◌++◌, length, take};
-ghost use Rattle.night.specs.Text.{most_digits, decimal, Sent, Refused, Short, text_of, tag_text, Wrote};
+ghost use Rattle.night.specs.Text.{line_bytes, most_digits, decimal, Sent, Refused, Short, text_of, tag_text, Wrote};
 
 use crate::LINE;
 use header::refusal::Refusal;
@@ -11,7 +11,7 @@ use tags::record::TagRecord;
 pub struct Line {
     bytes: [u8; LINE],
     length: usize,
-    ghost within: { length ≤ 80 },
+    ghost within: { length ≤ line_bytes },
 }
 
 impl Line {
@@ -42,7 +42,7 @@ impl Line {
 
     // Puts a text behind what there is.
     fn put(&mut self, text: &[u8])
-        requires { self.old.length + length text.now ≤ 80 }
+        requires { self.old.length + length text.now ≤ line_bytes }
         ensures { Wrote self.old.bytes self.old.length text.now self.new.length self.new.bytes }
     {
         let end = self.length + text.len();
@@ -52,7 +52,7 @@ impl Line {
 
     // The same of a number in decimal.
     fn number(&mut self, n: u64)
-        requires { self.old.length + most_digits ≤ 80 }
+        requires { self.old.length + most_digits ≤ line_bytes }
         ensures wrote { Wrote self.old.bytes self.old.length (decimal n) self.new.length self.new.bytes }
         ensures below { self.new.length ≤ self.old.length + most_digits }
     {
@@ -63,7 +63,7 @@ impl Line {
 
     // The same of a text and a number behind it.
     fn named(&mut self, text: &[u8], n: u64)
-        requires { self.old.length + length text.now + most_digits ≤ 80 }
+        requires { self.old.length + length text.now + most_digits ≤ line_bytes }
         ensures wrote { Wrote self.old.bytes self.old.length (text.now ++ decimal n) self.new.length self.new.bytes }
         ensures below { self.new.length ≤ self.old.length + length text.now + most_digits }
     {
