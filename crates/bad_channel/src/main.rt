@@ -6,10 +6,9 @@
 // at the end.
 #![tactic(auto)]
 
-use channel_run::controller::Controller;
-use channel_run::loader::{Outcome, State};
-use channel_run::{Bytes, Channel, loader};
-use initiator::sender;
+use channel_run::controller::{Answering, Arrived};
+use channel_run::loader::Outcome;
+use channel_run::{Bytes, loader};
 use initiator::sender::Sender;
 use message::discovery;
 use std::io;
@@ -19,95 +18,73 @@ mod round;
 
 use round::{Event, ROUND};
 
-// The two ends, the controller's memory, the last answer to each message, and how many messages have ended, modulo 256.
+// The two ends, and how many messages have ended, modulo 256.
 #[derive(Clone, Copy)]
 struct Ends {
     sender: Sender,
-    controller: Controller,
-    memory: [u32; 8],
-    answers: Channel,
     done: u8,
+    answering: Answering<8>,
+}
+
+// What is printed of an arrival at the controller.
+fn say(rt: &impl Print, arrived: &Arrived) -> io::Result<()> {
+    println!(rt; ": {arrived}:{}", show::Bytes(arrived.answer.as_slice()))
 }
 
 impl Ends {
     fn dusk() -> Ends {
         Ends {
             sender: Sender::fresh(),
-            controller: Controller::fresh(0),
-            memory: [0; 8],
-            answers: Channel::empty(),
             done: 0,
+            answering: Answering::fresh([0; 8]),
         }
     }
 
     // Message i is offered, and sent; that send is lost.
     fn offers(&mut self, rt: &impl Print, i: u32) -> io::Result<()> {
-        let message = messages::compose(i);
-        let moved = sender::offer(self.sender, message.as_slice());
-        let sent = loader::send(moved.sender, &message);
-        let state = State {
-            refusal: moved.refusal,
-            sender: moved.sender,
-        };
-        self.sender = moved.sender;
-        println!(rt; ": {state}, sends{}", show::Bytes(sent.as_slice()))
+        let offered = loader::offer(self.sender, &messages::compose(i));
+        self.sender = offered.state.sender;
+        println!(rt; ": {offered}")
     }
 
-    // A datagram comes to the controller: its answer.
-    fn comes(&mut self, rt: &impl Print, datagram: &[u8]) -> io::Result<Bytes> {
-        let arrived = self.controller.serve(&mut self.memory, datagram);
-        println!(rt; ": {arrived}:{}", show::Bytes(arrived.answer.as_slice()))?;
-        Ok(arrived.answer)
-    }
-
-    // A datagram of message i comes.
+    // A datagram of message i comes to the controller.
     fn arrives(&mut self, rt: &impl Print, i: u32, datagram: Bytes) -> io::Result<()> {
-        let answer = self.comes(rt, datagram.as_slice())?;
-        self.answers.put(i, answer);
-        Ok(())
+        let arrived = self.answering.comes(i, datagram.as_slice());
+        say(rt, &arrived)
     }
 
     // A discovery comes, and its answer comes to the sender.
     fn discovers(&mut self, rt: &impl Print, lent: u32) -> io::Result<()> {
-        let answer = self.comes(rt, &discovery::bytes())?;
+        let end = &mut self.answering;
+        let arrived = end.controller.serve(&mut end.memory, &discovery::bytes());
+        say(rt, &arrived)?;
         print!(rt; "its answer")?;
-        self.takes(rt, lent, answer)
-    }
-
-    // The outcome of message i.
-    fn tell(&self, rt: &impl Print, i: u32) -> io::Result<()> {
-        let message = messages::compose(i);
-        let answer = self.answers.get(i);
-        let outcome = Outcome {
-            message: message.as_slice(),
-            answer: answer.as_slice(),
-        };
-        println!(rt; "outcome {i}: {outcome}")
+        self.takes(rt, lent, arrived.answer)
     }
 
     // An answer comes to the sender, to which message `lent` is lent, and the outcomes of the messages that end, the
     // oldest first.
     fn takes(&mut self, rt: &impl Print, lent: u32, answer: Bytes) -> io::Result<()> {
-        let message = messages::compose(lent);
-        let taken = sender::take(self.sender, message.as_slice(), answer.as_slice());
-        let state = State {
-            refusal: taken.refusal,
-            sender: taken.sender,
-        };
-        println!(rt; ": {state}, ended {}", taken.ended)?;
+        let took = loader::take(self.sender, &messages::compose(lent), &answer);
+        println!(rt; ": {took}")?;
         let done = u32::from(self.done);
-        for i in done..done + u32::from(taken.ended) {
-            self.tell(rt, i)?;
+        for i in done..done + u32::from(took.ended) {
+            let outcome = Outcome {
+                i,
+                message: messages::compose(i),
+                answer: self.answering.answers.get(i),
+            };
+            println!(rt; "{outcome}")?;
         }
-        self.sender = taken.sender;
-        self.done = self.done.wrapping_add(taken.ended);
+        self.sender = took.state.sender;
+        self.done = self.done.wrapping_add(took.ended);
         Ok(())
     }
 
     // An event of message i. An answer to no message that waits comes with the oldest lent.
     fn play(&mut self, rt: &impl Print, event: Event, i: u32) -> io::Result<()> {
         let oldest = u32::from(self.done);
-        let answer = self.answers.get(i);
+        let answer = self.answering.answers.get(i);
         match event {
             Event::Offer | Event::FifthOffer => self.offers(rt, i),
             Event::Early | Event::Arrives | Event::Again => {
@@ -133,5 +110,5 @@ fn main(rt: HostRuntime) -> io::Result<()> {
             }
         }
     }
-    println!(rt; "memory{}", show::Words(&ends.memory))
+    println!(rt; "memory{}", show::Words(&ends.answering.memory))
 }

@@ -1,8 +1,10 @@
-// The controller's end: what it holds beside its memory, and a datagram that comes to it.
-ghost use Rattle.std.specs.Prelude.{◌≡◌};
+// The controller's end: what it holds, a datagram that comes to it, and its answers in the channel.
+ghost use Rattle.std.specs.Prelude.{◌≡◌, replicate};
+ghost use Rattle.channel_run.specs.Bytes.{no_bytes};
 ghost use Rattle.channel_run.specs.Controller.{fresh_with, after_in, held_by, arrived_by};
+ghost use Rattle.channel_run.specs.Controller.{answering_after};
 
-use crate::Bytes;
+use crate::{Bytes, Channel};
 use completer::serving;
 use header::limits;
 use header::refusal::Refusal;
@@ -25,7 +27,11 @@ pub struct Arrived {
 
 impl fmt::Display for Arrived {
     fn fmt<W: fmt::Write>(&self, f: &mut fmt::Formatter<W>) -> fmt::Result {
-        write!(f, "refusal {}, bytes {}", self.refusal.number, self.answer.n)
+        write!(
+            f,
+            "refusal {}, bytes {}",
+            self.refusal.number, self.answer.n
+        )
     }
 }
 
@@ -64,5 +70,38 @@ impl Controller {
                 n: served.sent,
             },
         }
+    }
+}
+
+// The controller over its memory, and the channel with the last answer to each datagram.
+#[derive(Clone, Copy)]
+pub struct Answering<const WORDS: usize> {
+    pub controller: Controller,
+    pub memory: [u32; WORDS],
+    pub answers: Channel,
+}
+
+impl<const WORDS: usize> Answering<WORDS> {
+    // A fresh controller over this memory.
+    pub fn fresh(memory: [u32; WORDS]) -> Self
+        ensures controller { result.controller ≡ fresh_with 0 }
+        ensures memory { result.memory ≡ memory.entry }
+        ensures answers { result.answers.places ≡ replicate 8 no_bytes }
+    {
+        Answering {
+            controller: Controller::fresh(0),
+            memory,
+            answers: Channel::empty(),
+        }
+    }
+
+    // Datagram i comes to the controller.
+    pub fn comes(&mut self, i: u32, datagram: &[u8]) -> Arrived
+        ensures arrived { result ≡ arrived_by (after_in self.old.memory self.old.controller datagram.now) }
+        ensures then { self.new ≡ answering_after self.old i datagram.now }
+    {
+        let arrived = self.controller.serve(&mut self.memory, datagram);
+        self.answers.put(i, arrived.answer);
+        arrived
     }
 }

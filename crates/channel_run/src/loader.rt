@@ -1,7 +1,8 @@
 // The loader's end: what is sent of a message, and how what the sender's calls gave is printed.
-ghost use Rattle.std.specs.Prelude.{◌≡◌, length};
-ghost use Rattle.initiator.specs.Sender.{send_of};
-ghost use Rattle.channel_run.specs.Bytes.{first_of, datagram_in};
+ghost use Rattle.std.specs.Prelude.{◌≡◌};
+ghost use Rattle.initiator.specs.Sender.{take_of};
+ghost use Rattle.channel_run.specs.Bytes.{datagram_in};
+ghost use Rattle.channel_run.specs.Loader.{sent_of, offered, took};
 
 use crate::Bytes;
 use header::refusal::Refusal;
@@ -11,7 +12,7 @@ use std::fmt;
 
 // What is sent of a message: nothing where it does not wait.
 pub fn send(s: Sender, message: &Bytes) -> Bytes
-    ensures { result ≡ first_of message.now.bytes (length (send_of s (datagram_in message.now))) }
+    ensures { result ≡ sent_of s message.now }
 {
     Bytes {
         bytes: message.bytes,
@@ -43,17 +44,84 @@ impl fmt::Display for State {
     }
 }
 
-// A message of one command, and its answer: how many commands it answers, and the data of a read.
+// What an offer came to, and what is sent of its message then.
 #[derive(Clone, Copy)]
-pub struct Outcome<'a> {
-    pub message: &'a [u8],
-    pub answer: &'a [u8],
+pub struct Offered {
+    pub state: State,
+    pub sent: Bytes,
 }
 
-impl fmt::Display for Outcome<'_> {
+impl fmt::Display for Offered {
     fn fmt<W: fmt::Write>(&self, f: &mut fmt::Formatter<W>) -> fmt::Result {
-        let answered = outcome::answered(self.message, self.answer);
-        let part = outcome::read_data(self.message, self.answer, 0);
-        write!(f, "answered {answered}, data{}", show::Bytes(part))
+        write!(
+            f,
+            "{}, sends{}",
+            self.state,
+            show::Bytes(self.sent.as_slice())
+        )
+    }
+}
+
+// A message is offered.
+pub fn offer(s: Sender, message: &Bytes) -> Offered
+    ensures { result ≡ offered s message.now }
+{
+    let moved = sender::offer(s, message.as_slice());
+    Offered {
+        state: State {
+            refusal: moved.refusal,
+            sender: moved.sender,
+        },
+        sent: send(moved.sender, message),
+    }
+}
+
+// What taking an answer came to, and how many messages ended.
+#[derive(Clone, Copy)]
+pub struct Took {
+    pub state: State,
+    pub ended: u8,
+}
+
+impl fmt::Display for Took {
+    fn fmt<W: fmt::Write>(&self, f: &mut fmt::Formatter<W>) -> fmt::Result {
+        write!(f, "{}, ended {}", self.state, self.ended)
+    }
+}
+
+// An answer comes to the sender, to which this message is lent.
+pub fn take(s: Sender, message: &Bytes, answer: &Bytes) -> Took
+    ensures { result ≡ took (take_of s (datagram_in message.now) (datagram_in answer.now)) }
+{
+    let taken = sender::take(s, message.as_slice(), answer.as_slice());
+    Took {
+        state: State {
+            refusal: taken.refusal,
+            sender: taken.sender,
+        },
+        ended: taken.ended,
+    }
+}
+
+// The outcome of message i, which has one command: how many commands its answer answers, and the data of a read.
+#[derive(Clone, Copy)]
+pub struct Outcome {
+    pub i: u32,
+    pub message: Bytes,
+    pub answer: Bytes,
+}
+
+impl fmt::Display for Outcome {
+    fn fmt<W: fmt::Write>(&self, f: &mut fmt::Formatter<W>) -> fmt::Result {
+        let message = self.message.as_slice();
+        let answer = self.answer.as_slice();
+        let answered = outcome::answered(message, answer);
+        let part = outcome::read_data(message, answer, 0);
+        write!(
+            f,
+            "outcome {}: answered {answered}, data{}",
+            self.i,
+            show::Bytes(part)
+        )
     }
 }

@@ -1,7 +1,13 @@
 // A night of lives over one controller: a loader loses all it knows at any moment, and with a reset of the controller
 // so does that. What a program's loader is, the program says.
+ghost use Rattle.std.specs.Prelude.{◌≡◌, replicate};
+ghost use Rattle.message.specs.Discovery.{discovery_bytes};
+ghost use Rattle.channel_run.specs.Bytes.{no_bytes, datagram_in, place_of};
+ghost use Rattle.channel_run.specs.Controller.{fresh_with, answering_after};
+ghost use Rattle.channel_run.specs.Night.{stranger_bytes};
+
 use crate::Channel;
-use crate::controller::{Arrived, Controller};
+use crate::controller::{Answering, Arrived, Controller};
 use initiator::sender::Sender;
 use message::discovery;
 use std::{fmt, io};
@@ -61,71 +67,93 @@ pub trait Loader<const WORDS: usize>: Copy {
     fn say_end(&self, rt: &impl Print, end: End, memory: &[u32; WORDS]) -> io::Result<()>;
 }
 
-// The loader; the channel: what was sent of each message, and the last answer to each, to the loader's discovery, which
-// is 5, and to strangers', 6 and 7; and the controller over its memory.
+// The loader, what was sent of each message, and the controller's end with the last answer to each, to the loader's
+// discovery, which is 5, and to strangers', 6 and 7.
 #[derive(Clone, Copy)]
 pub struct Night<L, const WORDS: usize> {
     pub loader: L,
     pub requests: Channel,
-    pub answers: Channel,
-    pub controller: Controller,
-    pub memory: [u32; WORDS],
+    pub answering: Answering<WORDS>,
 }
 
 impl<L: Loader<WORDS>, const WORDS: usize> Night<L, WORDS> {
     // A night before its first life has begun.
-    pub fn new(loader: L, memory: [u32; WORDS]) -> Self {
+    pub fn new(loader: L, memory: [u32; WORDS]) -> Self
+        ensures requests { result.requests.places ≡ replicate 8 no_bytes }
+        ensures controller { result.answering.controller ≡ fresh_with 0 }
+        ensures memory { result.answering.memory ≡ memory.entry }
+        ensures answers { result.answering.answers.places ≡ replicate 8 no_bytes }
+    {
         Night {
             loader,
             requests: Channel::empty(),
-            answers: Channel::empty(),
-            controller: Controller::fresh(0),
-            memory,
+            answering: Answering::fresh(memory),
         }
     }
 
     // Datagram i comes to the controller.
-    pub fn comes(&mut self, rt: &impl Print, i: u32, datagram: &[u8]) -> io::Result<()> {
-        let before = self.controller.tags;
-        let arrived = self.controller.serve(&mut self.memory, datagram);
-        self.answers.put(i, arrived.answer);
-        self.loader.arrived(rt, before, self.controller.tags, &arrived)
+    pub fn comes(&mut self, rt: &impl Print, i: u32, datagram: &[u8]) -> io::Result<()>
+        ensures requests { self.new.requests ≡ self.old.requests }
+        ensures answering { self.new.answering ≡ answering_after self.old.answering i datagram.now }
+    {
+        let before = self.answering.controller.tags;
+        let arrived = self.answering.comes(i, datagram);
+        self.loader
+            .arrived(rt, before, self.answering.controller.tags, &arrived)
     }
 
     // What was sent of message i comes.
-    pub fn late(&mut self, rt: &impl Print, i: u32) -> io::Result<()> {
+    pub fn late(&mut self, rt: &impl Print, i: u32) -> io::Result<()>
+        ensures requests { self.new.requests ≡ self.old.requests }
+        ensures answering { self.new.answering
+            ≡ answering_after self.old.answering i (datagram_in (place_of self.old.requests.places i)) }
+    {
         let request = self.requests.get(i);
         self.comes(rt, i, request.as_slice())
     }
 
     // The loader asks, or its discovery comes again.
-    pub fn asks(&mut self, rt: &impl Print) -> io::Result<()> {
+    pub fn asks(&mut self, rt: &impl Print) -> io::Result<()>
+        ensures requests { self.new.requests ≡ self.old.requests }
+        ensures answering { self.new.answering ≡ answering_after self.old.answering 5 discovery_bytes }
+    {
         self.comes(rt, 5, &discovery::bytes())
     }
 
     // A stranger reads words 0 and 1, by a discovery with tag 1; another, 7, by one with tag 2.
-    pub fn stranger(&mut self, rt: &impl Print, i: u32) -> io::Result<()> {
+    pub fn stranger(&mut self, rt: &impl Print, i: u32) -> io::Result<()>
+        ensures requests { self.new.requests ≡ self.old.requests }
+        ensures answering { self.new.answering ≡ answering_after self.old.answering i (stranger_bytes i) }
+    {
         let byte0 = if i == 7 { 162 } else { 161 };
         self.comes(rt, i, &[byte0, 0, 2, 128, 0, 0, 0, 0])
     }
 
     // The answer to datagram i comes to the loader as that to its discovery.
-    pub fn hears(&mut self, rt: &impl Print, i: u32) -> io::Result<()> {
-        let moved = Sender::discovered(self.answers.get(i).as_slice());
+    pub fn hears(&mut self, rt: &impl Print, i: u32) -> io::Result<()>
+        ensures requests { self.new.requests ≡ self.old.requests }
+        ensures answering { self.new.answering ≡ self.old.answering }
+    {
+        let moved = Sender::discovered(self.answering.answers.get(i).as_slice());
         self.loader.begins(moved.sender);
-        println!(rt; ": refusal {}, next {}", moved.refusal.number, moved.sender.next)
+        println!(rt;
+            ": refusal {}, next {}",
+            moved.refusal.number, moved.sender.next
+        )
     }
 
     // The life is over, and the next finds what it left: nothing is in the channel. A reset: the record is fresh, and
     // the other buffers hold something else.
-    pub fn ends(&mut self, rt: &impl Print, end: End) -> io::Result<()> {
-        self.loader.say_end(rt, end, &self.memory)?;
+    pub fn ends(&mut self, rt: &impl Print, end: End) -> io::Result<()>
+        ensures memory { self.new.answering.memory ≡ self.old.answering.memory }
+    {
+        self.loader.say_end(rt, end, &self.answering.memory)?;
         if end == End::Reset {
-            self.controller = Controller::fresh(7);
+            self.answering.controller = Controller::fresh(7);
         }
         self.loader = self.loader.next();
         self.requests = Channel::empty();
-        self.answers = Channel::empty();
+        self.answering.answers = Channel::empty();
         Ok(())
     }
 }

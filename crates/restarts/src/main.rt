@@ -14,10 +14,9 @@
 #![tactic(auto)]
 
 use channel_run::controller::Arrived;
-use channel_run::loader::{Outcome, State};
+use channel_run::loader::Outcome;
 use channel_run::night::{End, Loader, Night};
 use channel_run::{Bytes, Channel, loader};
-use initiator::sender;
 use initiator::sender::Sender;
 use std::{fmt, io};
 use tags::record::TagRecord;
@@ -61,27 +60,10 @@ impl Life {
 
     // It is offered, and sent.
     fn offers(&mut self, rt: &impl Print, requests: &mut Channel, i: u32) -> io::Result<()> {
-        let message = self.message(i);
-        let moved = sender::offer(self.sender, message.as_slice());
-        let sent = loader::send(moved.sender, &message);
-        let state = State {
-            refusal: moved.refusal,
-            sender: moved.sender,
-        };
-        self.sender = moved.sender;
-        requests.put(i, sent);
-        println!(rt; ": {state}, sends{}", show::Bytes(sent.as_slice()))
-    }
-
-    // The outcome of message i.
-    fn tell(&self, rt: &impl Print, answers: &Channel, i: u32) -> io::Result<()> {
-        let message = self.message(i);
-        let answer = answers.get(i);
-        let outcome = Outcome {
-            message: message.as_slice(),
-            answer: answer.as_slice(),
-        };
-        println!(rt; "  outcome {i}: {outcome}")
+        let offered = loader::offer(self.sender, &self.message(i));
+        self.sender = offered.state.sender;
+        requests.put(i, offered.sent);
+        println!(rt; ": {offered}")
     }
 
     // The answer to datagram i comes to the sender. With an answer to no message the oldest is lent. The outcomes of
@@ -89,17 +71,18 @@ impl Life {
     fn takes(&mut self, rt: &impl Print, answers: &Channel, i: u32) -> io::Result<()> {
         let done = u32::from(self.done);
         let lent = self.message(if i < 5 { i } else { done });
-        let taken = sender::take(self.sender, lent.as_slice(), answers.get(i).as_slice());
-        let state = State {
-            refusal: taken.refusal,
-            sender: taken.sender,
-        };
-        println!(rt; ": {state}, ended {}", taken.ended)?;
-        for ended in done..done + u32::from(taken.ended) {
-            self.tell(rt, answers, ended)?;
+        let took = loader::take(self.sender, &lent, &answers.get(i));
+        println!(rt; ": {took}")?;
+        for i in done..done + u32::from(took.ended) {
+            let outcome = Outcome {
+                i,
+                message: self.message(i),
+                answer: answers.get(i),
+            };
+            println!(rt; "  {outcome}")?;
         }
-        self.sender = taken.sender;
-        self.done = self.done.wrapping_add(taken.ended);
+        self.sender = took.state.sender;
+        self.done = self.done.wrapping_add(took.ended);
         Ok(())
     }
 }
@@ -165,7 +148,7 @@ fn play(rt: &impl Print, night: &mut Night<Life, 3>, event: Event) -> io::Result
             night.loader.sends(&mut night.requests, i);
             night.late(rt, i)
         }
-        Event::Answer(i) => night.loader.takes(rt, &night.answers, i),
+        Event::Answer(i) => night.loader.takes(rt, &night.answering.answers, i),
         Event::Asks | Event::Discovery => night.asks(rt),
         Event::Stranger(i) => night.stranger(rt, i),
         Event::Hears(i) => night.hears(rt, i),

@@ -145,7 +145,7 @@ fn play(rt: &impl Print, night: &mut Night<Life, 210>, event: Event) -> io::Resu
         Event::Comes(i) => night.late(rt, i),
         Event::Answer(i) => night
             .loader
-            .takes(rt, &night.requests, night.answers.get(i)),
+            .takes(rt, &night.requests, night.answering.answers.get(i)),
         Event::Asks => night.asks(rt),
         Event::Stranger(i) => night.stranger(rt, i),
         Event::Hears(i) => night.hears(rt, i),
@@ -156,7 +156,7 @@ fn play(rt: &impl Print, night: &mut Night<Life, 210>, event: Event) -> io::Resu
         }
         // the last word of row 7
         Event::Spoils => {
-            night.memory[71] = 0;
+            night.answering.memory[71] = 0;
             println!(rt)
         }
         Event::Ends(end) => night.ends(rt, end),
