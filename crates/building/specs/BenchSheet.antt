@@ -8,7 +8,7 @@ use Rattle.message.specs.Request.{All}
 use Rattle.message.specs.Examples.{gapped_words, gapped}
 use Rattle.building.specs.declared.record.Building.{Building}
 use Rattle.building.specs.declared.asked.Asked.{Asked}
-use Rattle.building.specs.declared.build.Built.{Built}
+use Rattle.building.specs.Build.{Built}
 use Rattle.building.specs.Build.{gives, begun, added, added_to, closed, closed_to}
 use Rattle.building.specs.Sequence.{built_bytes}
 use Rattle.building.specs.Examples.{ask}

@@ -1,17 +1,26 @@
 -- Building a message: begin, add, close, and their refusals 21 to 26. Assumes nothing.
-use Rattle.std.specs.Prelude.{ℕ, ◌+◌, ◌*◌, ◌%◌, Bool, true, false, not, cond, ◌&&◌, List, [], ◌∷◌, length, get_or, leb, eqb}
+use Rattle.std.specs.Prelude.{ℕ, ◌+◌, ◌*◌, ◌%◌, Bool, true, false, not, cond, ◌&&◌, List, [], ◌∷◌, length, get_or, leb, eqb, Result}
 use Rattle.word.specs.Words.{put, put_words}
+use Rattle.header.specs.declared.refusal.Refusal.{Refusal}
 use Rattle.header.specs.Limits.{limit_bytes}
 use Rattle.header.specs.Header.{kind_of}
-use Rattle.header.specs.Refusal.{refusal, unless}
+use Rattle.header.specs.Refusal.{refusal, unless, result_of}
 use Rattle.message.specs.Request.{command_words}
 use Rattle.building.specs.declared.record.Building.{Building}
 use Rattle.building.specs.declared.asked.Asked.{Asked}
-use Rattle.building.specs.declared.build.Built.{Built}
 use Rattle.building.specs.Record.{start_ok, byte0_by, reachable}
 use Rattle.building.specs.Asked.{count_by, command_by, size_by, reply_by, command_fault}
 
--- what a call gives back: the number of its refusal, 0 for none, and the record
+-- what a call gives back: its refusal, number 0 for none, and the record
+pub record Built : Type 0 where
+  pub refusal : Refusal
+  pub building : Building
+
+-- as a function gives it back
+abbrev pub built_of : Built → Result Building Refusal
+built_of built = result_of built.refusal built.building
+
+-- from the refusal's number
 abbrev pub gives : ℕ → Building → Built
 gives number b = record { refusal = refusal number; building = b }
 

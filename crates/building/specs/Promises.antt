@@ -1,9 +1,10 @@
 -- What a refused call leaves, said of the calls and not by their definitions. Assumes nothing.
-use Rattle.std.specs.Prelude.{ℕ, ◌≡◌, Bool, List}
+use Rattle.std.specs.Prelude.{ℕ, ◌≡◌, Bool, cond, eqb, List, Result, Ok, Err}
+use Rattle.header.specs.declared.refusal.Refusal.{Refusal}
 use Rattle.header.specs.Refusal.{refusal}
 use Rattle.building.specs.declared.record.Building.{Building}
 use Rattle.building.specs.declared.asked.Asked.{Asked}
-use Rattle.building.specs.Build.{gives, begun, added, added_to, closed, closed_to}
+use Rattle.building.specs.Build.{Built, built_of, gives, begun, added, added_to, closed, closed_to}
 use Rattle.building.specs.Reach.{Reached}
 
 -- "Refusals .. change nothing": adding that is refused leaves the record and the output as they were
@@ -32,6 +33,21 @@ abbrev pub RefusedBeginStops : Type 0
 RefusedBeginStops =
     (room kind tag : ℕ) (wide discovery : Bool) → ((begun room kind tag wide discovery).refusal ≡ refusal 0 → ⊥)
     → Stopped (begun room kind tag wide discovery).building
+
+-- what a function gives back, over the record that was lent: nothing is refused, or the record is as it was
+abbrev pub over : Building → Result Building Refusal → Built
+over old (Ok new) = gives 0 new
+over old (Err refusal) = record { refusal = refusal; building = old }
+
+-- it tells all that the call comes to: a refused add or close leaves the record that was lent, and a begin gives none
+pub record ResultTells : Type 0 where
+  pub begin : (old : Building) (room kind tag : ℕ) (wide discovery : Bool)
+      → let begins = begun room kind tag wide discovery in
+      over old (built_of begins)
+      ≡ cond (eqb begins.refusal.number 0) begins (record { refusal = begins.refusal; building = old })
+  pub add : (out : List ℕ) (b : Building) (asked : Asked) (payload : List ℕ)
+      → over b (built_of (added out b asked payload)) ≡ added out b asked payload
+  pub close : (out : List ℕ) (b : Building) → over b (built_of (closed out b)) ≡ closed out b
 
 -- [4] "All others .. give 0": no refusal of building has a place
 pub record NoPlace : Type 0 where

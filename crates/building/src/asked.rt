@@ -1,7 +1,7 @@
 // The command that is asked for, and what can be wrong with it: 23 to 26.
 ghost use Rattle.std.specs.Prelude.{◌≡◌, ◌<◌, ◌≤◌, true, false};
-ghost use Rattle.header.specs.Limits.{limit};
 ghost use Rattle.header.specs.Header.{kind_of, header_from};
+ghost use Rattle.header.specs.Refusal.{refusal, as_result};
 ghost use Rattle.building.specs.Asked.{count_by, byte1_by, address_sent, count_fits, fields_ok, enables_fit};
 ghost use Rattle.building.specs.Asked.{narrow_ok, address_fits, size_by, reply_by, room_fits, command_fault};
 
@@ -24,24 +24,21 @@ pub(crate) fn count_by(kind: Kind, asked: usize, lent: usize) -> usize
     ensures { result ≡ count_by kind asked lent }
 {
     match kind {
-        Kind::Nop => lent,
-        Kind::Write => lent,
         Kind::Read => asked,
-        Kind::Response => lent,
+        Kind::Nop | Kind::Write | Kind::Response => lent,
     }
 }
 
 // Byte 1: a write's enables, else 0.
+#[tactic(auto, unfolding(crate::specs::Asked::fields_ok))]
 fn byte1_by(kind: Kind, count: usize, asked: Asked) -> u32
     requires { enables_fit kind count asked ≡ true }
     ensures value { result ≡ byte1_by kind asked.first asked.last }
     ensures below { result < 256 }
 {
     match kind {
-        Kind::Nop => 0,
         Kind::Write => asked.first + 16 * asked.last,
-        Kind::Read => 0,
-        Kind::Response => 0,
+        Kind::Nop | Kind::Read | Kind::Response => 0,
     }
 }
 
@@ -51,34 +48,27 @@ pub(crate) fn address_sent(kind: Kind, address: u64) -> u64
     ensures below { result < 18446744073709551616 }
 {
     match kind {
-        Kind::Nop => 0,
-        Kind::Write => address,
-        Kind::Read => address,
-        Kind::Response => 0,
+        Kind::Write | Kind::Read => address,
+        Kind::Nop | Kind::Response => 0,
     }
 }
 
 // Whether a command of this kind may have this count.
+#[tactic(auto, unfolding(crate::specs::Asked::count_fits))]
 fn count_fits(kind: Kind, count: usize) -> bool
     ensures { result ≡ count_fits kind count }
 {
-    if 4096 <= count {
-        return false;
-    }
-    faults::count_ok(kind, count)
+    count < 4096 && faults::count_ok(kind, count)
 }
 
 // Whether these are two fields of four bits that a write of this count may have at its address.
+#[tactic(auto, unfolding(crate::specs::Asked::fields_ok))]
 fn fields_ok(count: usize, asked: Asked) -> bool
     ensures { result ≡ fields_ok count asked }
 {
-    if 16 <= asked.first {
-        return false;
-    }
-    if 16 <= asked.last {
-        return false;
-    }
-    faults::pattern_ok(count, asked.address, asked.first, asked.last)
+    asked.first < 16
+        && asked.last < 16
+        && faults::pattern_ok(count, asked.address, asked.first, asked.last)
 }
 
 // Whether a command of this kind and count may have its enables: only writes are looked at.
@@ -86,21 +76,17 @@ fn enables_fit(kind: Kind, count: usize, asked: Asked) -> bool
     ensures { result ≡ enables_fit kind count asked }
 {
     match kind {
-        Kind::Nop => true,
         Kind::Write => fields_ok(count, asked),
-        Kind::Read => true,
-        Kind::Response => true,
+        Kind::Nop | Kind::Read | Kind::Response => true,
     }
 }
 
 // Whether the address has no more bits than the message's addresses.
+#[tactic(auto, unfolding(crate::specs::Asked::narrow_ok))]
 fn narrow_ok(wide: bool, address: u64) -> bool
     ensures { result ≡ narrow_ok wide address }
 {
-    if wide {
-        return true;
-    }
-    address < 4294967296
+    wide || address < 4294967296
 }
 
 // The same for any kind: a NOP's is not looked at.
@@ -108,14 +94,13 @@ fn address_fits(kind: Kind, wide: bool, address: u64) -> bool
     ensures { result ≡ address_fits kind wide address }
 {
     match kind {
-        Kind::Nop => true,
-        Kind::Write => narrow_ok(wide, address),
-        Kind::Read => narrow_ok(wide, address),
-        Kind::Response => true,
+        Kind::Write | Kind::Read => narrow_ok(wide, address),
+        Kind::Nop | Kind::Response => true,
     }
 }
 
 // The words of a command in a message of this byte 0.
+#[tactic(auto, unfolding(crate::specs::Asked::size_by))]
 pub(crate) fn size_by(byte0: u32, count: usize) -> usize
     requires { count < 4096 }
     ensures value { result ≡ size_by byte0 count }
@@ -125,6 +110,7 @@ pub(crate) fn size_by(byte0: u32, count: usize) -> usize
 }
 
 // The words of its OK answer.
+#[tactic(auto, unfolding(crate::specs::Asked::reply_by))]
 pub(crate) fn reply_by(byte0: u32, count: usize) -> usize
     requires { count < 4096 }
     ensures value { result ≡ reply_by byte0 count }
@@ -134,45 +120,41 @@ pub(crate) fn reply_by(byte0: u32, count: usize) -> usize
 }
 
 // Whether request and all-OK answer stay within the limit with a command more.
+#[tactic(auto, unfolding(crate::specs::Asked::room_fits))]
 fn room_fits(byte0: u32, words: usize, answer: usize, count: usize) -> bool
-    requires { (words ≤ limit)
-        × (answer ≤ limit)
-        × (count < 4096) }
+    requires { count < 4096 }
     ensures { result ≡ room_fits byte0 words answer count }
 {
-    if limits::LIMIT < words + size_by(byte0, count) {
-        return false;
-    }
-    answer + reply_by(byte0, count) <= limits::LIMIT
+    words.saturating_add(size_by(byte0, count)) <= limits::LIMIT
+        && answer.saturating_add(reply_by(byte0, count)) <= limits::LIMIT
 }
 
-// What is wrong with a command of this count, 23 to 26, or 0.
+// What is wrong with a command of this count, 23 to 26.
+#[tactic(auto, unfolding(crate::specs::Asked::command_fault, crate::specs::Asked::count_fits))]
 pub(crate) fn command_fault(
     byte0: u32,
     words: usize,
     answer: usize,
     asked: Asked,
     count: usize,
-) -> u32
-    requires words_le_limit { words ≤ limit }
-    requires answer_le_limit { answer ≤ limit }
-    ensures { result ≡ command_fault byte0 words answer asked count }
+) -> Result<(), Refusal>
+    ensures { result ≡ as_result (refusal (command_fault byte0 words answer asked count)) }
 {
     let kind = header::kind_of(byte0);
     let wide = header::wide(byte0);
     if !count_fits(kind, count) {
-        return Refusal::ADDED_COUNT;
+        return Err(Refusal::of(Refusal::ADDED_COUNT));
     }
     if !enables_fit(kind, count, asked) {
-        return Refusal::ADDED_ENABLES;
+        return Err(Refusal::of(Refusal::ADDED_ENABLES));
     }
     if !address_fits(kind, wide, asked.address) {
-        return Refusal::ADDED_ADDRESS;
+        return Err(Refusal::of(Refusal::ADDED_ADDRESS));
     }
     if !room_fits(byte0, words, answer, count) {
-        return Refusal::NO_ROOM;
+        return Err(Refusal::of(Refusal::NO_ROOM));
     }
-    0
+    Ok(())
 }
 
 // The header of a command that others may follow.

@@ -1,5 +1,6 @@
 -- A message or an answer as the programs hold it, and a message of one command. Assumes nothing.
-use Rattle.std.specs.Prelude.{ℕ, ◌*◌, ◌%◌, false, cond, List, [], ◌∷◌, ltb, eqb, length, get_or, set, take, replicate}
+use Rattle.std.specs.Prelude.{ℕ, ◌*◌, ◌%◌, false, cond, List, [], ◌∷◌, ltb, eqb, length, get_or, set, take, replicate, ◌≡◌, Result, Ok, Err}
+use Rattle.header.specs.declared.refusal.Refusal.{Refusal}
 use Rattle.header.specs.Limits.{limit, limit_bytes}
 use Rattle.building.specs.declared.asked.Asked.{Asked}
 use Rattle.building.specs.Build.{begun, added, added_to, closed, closed_to}
@@ -35,3 +36,8 @@ composed kind tag asked word =
     let a = (added zeros b asked (word ∷ [])).building in
     let words = (closed out a).building.words in
     cond (ltb limit words) no_bytes (first_of (closed_to out a) (4 * words))
+
+-- what building it in an output of zeros comes to: the message's length in bytes, or none where it is refused
+abbrev pub OneBuilt : ℕ → ℕ → Asked → ℕ → Result ℕ Refusal → List ℕ → Type 0
+OneBuilt kind tag asked word (Ok n) out = first_of out n ≡ composed kind tag asked word
+OneBuilt kind tag asked word (Err r) out = no_bytes ≡ composed kind tag asked word

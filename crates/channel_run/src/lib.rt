@@ -7,10 +7,12 @@
 
 ghost use Rattle.std.specs.Prelude.{◌≡◌, false, replicate};
 ghost use Rattle.header.specs.Header.{number_of};
-ghost use Rattle.channel_run.specs.Bytes.{no_bytes, datagram_in, place_of, placed, composed};
+ghost use Rattle.channel_run.specs.Bytes.{zeros, no_bytes, datagram_in, place_of, placed, composed};
+ghost use Rattle.channel_run.specs.Bytes.{OneBuilt};
 
 use building::asked::Asked;
 use building::build;
+use header::refusal::Refusal;
 use header::{Kind, limits};
 
 pub mod controller;
@@ -77,20 +79,30 @@ impl Channel {
     }
 }
 
+// Builds the message of one command in an output of zeros, and gives its length in bytes.
+fn build_one(
+    out: &mut [u8],
+    kind: Kind,
+    tag: u32,
+    asked: Asked,
+    word: u32,
+) -> Result<usize, Refusal>
+    requires { out.old ≡ zeros }
+    ensures { OneBuilt (number_of kind) tag asked word result out.new }
+{
+    let begun = build::begin(out, header::number(kind), tag, false, false)?;
+    let added = build::add(out, begun, asked, &[word])?;
+    let closed = build::close(out, added)?;
+    Ok(4 * closed.words)
+}
+
 // The message of one command, with the word that a write has.
 pub fn compose(kind: Kind, tag: u32, asked: Asked, word: u32) -> Bytes
     ensures { result ≡ composed (number_of kind) tag asked word }
 {
     let mut bytes = [0u8; limits::LIMIT_BYTES];
-    let begun = build::begin(&bytes, header::number(kind), tag, false, false);
-    let added = build::add(&mut bytes, begun.building, asked, &[word]);
-    let closed = build::close(&mut bytes, added.building);
-    let words = closed.building.words;
-    if words > limits::LIMIT {
-        return Bytes::none();
-    }
-    Bytes {
-        bytes,
-        n: 4 * words,
+    match build_one(&mut bytes, kind, tag, asked, word) {
+        Ok(n) => Bytes { bytes, n },
+        Err(_) => Bytes::none(),
     }
 }

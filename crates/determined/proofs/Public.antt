@@ -46,7 +46,7 @@ pub training : Training
 training =
     record {
       set-up = λ M 𝓤 𝓛 mem run κs a g one other. one_of 𝓤;
-      row_of = λ M 𝓤 𝓛 mem run κs a g one other. one_of 𝓤;
+      row_of = λ M 𝓤 𝓛 mem run κs a g one other. first_of 𝓤;
       write = λ M 𝓤 𝓛 mem run κs a g one other. two-of 𝓤;
       begin = λ M 𝓤 𝓛 mem run κs a g one other. one_of 𝓤;
       message = λ M 𝓤 𝓛 mem run κs a g one other. two-of 𝓤;

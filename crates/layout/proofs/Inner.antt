@@ -3,4 +3,3 @@ pub mod Commands
 pub mod Wanted
 pub mod Filling
 pub mod Making
-pub mod SetUp

@@ -6,9 +6,8 @@ use Rattle.message.specs.Request.{All, written}
 use Rattle.building.specs.Examples.{Number, Same}
 use Rattle.layout.specs.declared.Stage.{Stage}
 use Rattle.layout.specs.declared.Stage.TheVariants.{Clear, Rows, Back, Mark}
-use Rattle.layout.specs.declared.writing.Wrote.{Wrote}
 use Rattle.layout.specs.Layout.{set_up_fault, table_of, request_at}
-use Rattle.layout.specs.Writing.{make_fault, wrote_of, wrote_to}
+use Rattle.layout.specs.Writing.{Wrote, make_fault, wrote_of, wrote_to}
 
 -- the number that a set-up gets, by its start in bytes and its room in words
 abbrev pub set_up : ℕ → ℕ → ℕ → Number

@@ -1,5 +1,6 @@
 -- What the calls inside `write` go by; nobody else needs to read it. Assumes nothing.
-use Rattle.std.specs.Prelude.{ℕ, ◌+◌, ◌<◌, ◌≤◌, ◌≡◌, false, List, [], ◌∷◌}
+use Rattle.std.specs.Prelude.{ℕ, ◌+◌, ◌<◌, ◌≤◌, ◌≡◌, false, List, [], ◌∷◌, Result, IsOkAnd}
+use Rattle.header.specs.declared.refusal.Refusal.{Refusal}
 use Rattle.header.specs.declared.Kind.{Kind}
 use Rattle.header.specs.declared.Kind.TheVariants.{Nop, Write, Read, Response}
 use Rattle.header.specs.Limits.{tag_count}
@@ -36,23 +37,24 @@ pub data Rowed : Kind → Type 0 where
 abbrev pub Row : List ℕ → Kind → ℕ → ℕ → List ℕ → ℕ → Building → List ℕ → Type 0
 Row o kind tag start rows i b out = Going o kind tag (each_from (row_by kind start rows) 0 i) b out
 
--- one row's command more; n rows' more, of none; a write to the mark, a stage's commands more, of none: whatever the
--- output was before anything was added
-abbrev pub RowAdded : ℕ → List ℕ → ℕ → Building → List ℕ → Building → List ℕ → Type 0
-RowAdded start rows i b out b' out' =
+-- one row's command more; n rows' more, of none; a write to the mark, a stage's commands more, of none: none is
+-- refused, whatever the output was before anything was added
+abbrev pub RowAdded : ℕ → List ℕ → ℕ → Building → List ℕ → Result Building Refusal → List ℕ → Type 0
+RowAdded start rows i b out result out' =
     (o : List ℕ) (kind : Kind) (tag : ℕ) → Rowed kind → Row o kind tag start rows i b out
-    → Row o kind tag start rows (i + 1) b' out'
+    → IsOkAnd result (λ b'. Row o kind tag start rows (i + 1) b' out')
 
-abbrev pub RowsAdded : ℕ → List ℕ → ℕ → Building → List ℕ → Building → List ℕ → Type 0
-RowsAdded start rows n b out b' out' =
+abbrev pub RowsAdded : ℕ → List ℕ → ℕ → Building → List ℕ → Result Building Refusal → List ℕ → Type 0
+RowsAdded start rows n b out result out' =
     (o : List ℕ) (kind : Kind) (tag : ℕ) → Rowed kind → Row o kind tag start rows 0 b out
-    → Row o kind tag start rows n b' out'
+    → IsOkAnd result (λ b'. Row o kind tag start rows n b' out')
 
-abbrev pub MarkAdded : ℕ → ℕ → Building → List ℕ → Building → List ℕ → Type 0
-MarkAdded start value b out b' out' =
-    (o : List ℕ) (tag : ℕ) → Going o Write tag [] b out → Going o Write tag (mark_write start value ∷ []) b' out'
+abbrev pub MarkAdded : ℕ → ℕ → Building → List ℕ → Result Building Refusal → List ℕ → Type 0
+MarkAdded start value b out result out' =
+    (o : List ℕ) (tag : ℕ) → Going o Write tag [] b out
+    → IsOkAnd result (λ b'. Going o Write tag (mark_write start value ∷ []) b' out')
 
-abbrev pub StageAdded : Stage → ℕ → List ℕ → Building → List ℕ → Building → List ℕ → Type 0
-StageAdded stage start rows b out b' out' =
+abbrev pub StageAdded : Stage → ℕ → List ℕ → Building → List ℕ → Result Building Refusal → List ℕ → Type 0
+StageAdded stage start rows b out result out' =
     (o : List ℕ) (tag : ℕ) → Going o (kind_at stage) tag [] b out
-    → Going o (kind_at stage) tag (commands_at stage start rows) b' out'
+    → IsOkAnd result (λ b'. Going o (kind_at stage) tag (commands_at stage start rows) b' out')

@@ -6,6 +6,8 @@
 #![tactic(auto)]
 
 ghost use Rattle.std.specs.Prelude.{◌≡◌, ◌<◌};
+ghost use Rattle.word.specs.Words.{Words};
+ghost use Rattle.header.specs.Refusal.{refusal, as_result};
 ghost use Rattle.layout.specs.Layout.{set_up_fault, row_of};
 
 use header::refusal::Refusal;
@@ -34,39 +36,24 @@ pub const TABLE: u64 = 193;
 // 2^32, where the last table may end.
 const TOP: u64 = 4294967296;
 
-// The refusal of a set-up, a start in bytes and a room in words: 40, or 0 for none.
-pub fn set_up(start: u64, room: u64) -> u32
-    ensures { result ≡ set_up_fault start room }
+// Refuses a set-up, a start in bytes and a room in words: 40.
+#[tactic(auto, unfolding(crate::specs::Layout::set_up_fault, crate::specs::Layout::set_up_ok))]
+pub fn set_up(start: u64, room: u64) -> Result<(), Refusal>
+    ensures { result ≡ as_result (refusal (set_up_fault start room)) }
 {
-    if room < TABLE {
-        return Refusal::SET_UP;
+    if room < TABLE || start % 4 != 0 || TOP / 4 < room || TOP - 4 * room < start {
+        return Err(Refusal::of(Refusal::SET_UP));
     }
-    if start % 4 != 0 {
-        return Refusal::SET_UP;
-    }
-    if TOP / 4 < room {
-        return Refusal::SET_UP;
-    }
-    if TOP - 4 * room < start {
-        return Refusal::SET_UP;
-    }
-    0
+    Ok(())
 }
 
 // Row i, counted from 0: its number, then its seven words.
 pub fn row_of(rows: &[u32; 168], i: usize) -> [u32; 8]
     requires { i < 24 }
-    ensures { result ≡ row_of rows.now i }
+    ensures value { result ≡ row_of rows.now i }
+    ensures words { Words result }
 {
-    let at = 7 * i;
-    [
-        i as u32 + 1,
-        rows[at],
-        rows[at + 1],
-        rows[at + 2],
-        rows[at + 3],
-        rows[at + 4],
-        rows[at + 5],
-        rows[at + 6],
-    ]
+    let mut row = [i as u32 + 1; 8];
+    row[1..].copy_from_slice(&rows[7 * i..7 * i + 7]);
+    row
 }

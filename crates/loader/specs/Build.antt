@@ -3,7 +3,7 @@ use Rattle.std.specs.Prelude.{ℕ, ◌≡◌, Bool, cond, eqb}
 use Rattle.header.specs.declared.refusal.Refusal.{Refusal}
 use Rattle.building.specs.declared.record.Building.{Building}
 use Rattle.building.specs.declared.asked.Asked.{Asked}
-use Rattle.building.specs.declared.build.Built.{Built}
+use Rattle.building.specs.Build.{Built}
 use Rattle.building.specs.Build.{begun}
 
 -- a command's fields, each a parameter

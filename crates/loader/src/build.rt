@@ -6,11 +6,11 @@ ghost use Rattle.std.specs.Prelude.{◌≡◌, length};
 ghost use Rattle.message.specs.Walk.{read};
 ghost use Rattle.message.specs.Request.{refusal_in};
 ghost use Rattle.building.specs.Build.{added, added_to, closed, closed_to};
+ghost use Rattle.building.specs.Promises.{over};
 ghost use Rattle.loader.specs.Build.{asking, leaves, begun_over};
 
 use building::asked::Asked;
 use building::build;
-use building::build::Built;
 use building::record::Building;
 use header::refusal::Refusal;
 use message::walk;
@@ -26,46 +26,17 @@ pub fn charkhavo_refusal(request: &[u8]) -> Refusal
     }
 }
 
-// Begins a message over a record: refused, it is handed back as it was.
-fn begin_over(
-    output: &[u8],
-    building: Building,
-    kind: u32,
-    tag: u32,
-    wide: bool,
-    discovery: bool,
-) -> Built
-    ensures { result ≡ begun_over (length output.now) building kind tag wide discovery }
+// Leaves the new record where the old one was; refused, that one stays.
+fn leave(building: &mut Building, gave: Result<Building, Refusal>) -> Refusal
+    ensures { leaves result building.new ≡ over building.old gave }
 {
-    let begun = build::begin(output, kind, tag, wide, discovery);
-    let refusal = begun.refusal;
-    if refusal.number != 0 {
-        return Built { refusal, building };
+    match gave {
+        Ok(new) => {
+            *building = new;
+            Refusal::of(Refusal::NONE)
+        }
+        Err(refusal) => refusal,
     }
-    begun
-}
-
-// Adds the command of these fields.
-fn add_asked(
-    output: &mut [u8],
-    building: Building,
-    address: u64,
-    first: u32,
-    last: u32,
-    count: usize,
-    payload: &[u32],
-) -> Built
-    ensures { (result ≡ added output.old building (asking address first last count) payload.now)
-        × (output.new
-        ≡ added_to output.old building (asking address first last count) payload.now) }
-{
-    let asked = Asked {
-        address,
-        first,
-        last,
-        count,
-    };
-    build::add(output, building, asked, payload)
 }
 
 // Begins a message in the lent output, of which it changes no byte; 21. The record is then the message's; refused, it
@@ -81,9 +52,7 @@ pub fn charkhavo_begin(
     ensures { leaves result building.new
         ≡ begun_over (length output.now) building.old kind tag wide discovery }
 {
-    let begun = begin_over(output, *building, kind, tag, wide, discovery);
-    *building = begun.building;
-    begun.refusal
+    leave(building, build::begin(output, kind, tag, wide, discovery))
 }
 
 // Adds a command, with the data of a write or NOP; 21 to 26. Only the command's bytes and the record change; refused,
@@ -103,9 +72,13 @@ pub fn charkhavo_add(
         ≡ added_to output.old building.old (asking address first last count)
         payload.now) }
 {
-    let added = add_asked(output, *building, address, first, last, count, payload);
-    *building = added.building;
-    added.refusal
+    let asked = Asked {
+        address,
+        first,
+        last,
+        count,
+    };
+    leave(building, build::add(output, *building, asked, payload))
 }
 
 // Closes the message; 21, 22. Only the LAST bit of its last header and the record change; refused, nothing.
@@ -113,7 +86,5 @@ pub fn charkhavo_close(output: &mut [u8], building: &mut Building) -> Refusal
     ensures { (leaves result building.new ≡ closed output.old building.old) ×
         (output.new ≡ closed_to output.old building.old) }
 {
-    let closed = build::close(output, *building);
-    *building = closed.building;
-    closed.refusal
+    leave(building, build::close(output, *building))
 }

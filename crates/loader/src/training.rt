@@ -104,7 +104,10 @@ fn numbers_of(attempt: Attempt) -> TableAttempt
 pub fn charkhavo_set_up(start: u64, room: u64) -> u32
     ensures { result ≡ set_up_fault start room }
 {
-    layout::set_up(start, room)
+    match layout::set_up(start, room) {
+        Ok(()) => Refusal::NONE,
+        Err(refusal) => refusal.number,
+    }
 }
 
 // An attempt begins, with the sender that a life of the loader begins with. Where a message waits there, 37 refuses
@@ -127,19 +130,17 @@ pub fn charkhavo_table_message(
     ensures { (result ≡ table_made_of attempt start room rows.now output.old)
         × (output.new ≡ made_to (attempt_of attempt) start room rows.now output.old) }
 {
-    let made = attempt::message(output, attempt_of(attempt), start, room, rows);
-    let refusal = made.refusal;
-    if refusal != 0 {
-        return TableMade {
-            refusal,
+    match attempt::message(output, attempt_of(attempt), start, room, rows) {
+        Ok(offered) => TableMade {
+            refusal: Refusal::NONE,
+            length: offered.length as u32,
+            attempt: numbers_of(offered.attempt),
+        },
+        Err(refusal) => TableMade {
+            refusal: refusal.number,
             length: 0,
             attempt,
-        };
-    }
-    TableMade {
-        refusal,
-        length: made.length as u32,
-        attempt: numbers_of(made.attempt),
+        },
     }
 }
 
@@ -153,13 +154,11 @@ pub fn charkhavo_table_take(
 ) -> TableTaken
     ensures { result ≡ table_taken_of attempt message.now answer.now rows.now }
 {
-    let taken = attempt::take(attempt_of(attempt), message, answer, rows);
-    let refusal = taken.refusal;
-    if refusal.number != 0 {
-        return TableTaken { refusal, attempt };
-    }
-    TableTaken {
-        refusal,
-        attempt: numbers_of(taken.attempt),
+    match attempt::take(attempt_of(attempt), message, answer, rows) {
+        Ok(taken) => TableTaken {
+            refusal: Refusal::of(Refusal::NONE),
+            attempt: numbers_of(taken),
+        },
+        Err(refusal) => TableTaken { refusal, attempt },
     }
 }

@@ -9,7 +9,7 @@ use Rattle.initiator.specs.BenchSheet.{idle, waiting}
 use Rattle.layout.specs.declared.Stage.TheVariants.{Clear, Rows, Back, Mark}
 use Rattle.table.specs.declared.attempt.Next.{Next}
 use Rattle.table.specs.declared.attempt.Next.TheVariants.{Send, Done, Ended}
-use Rattle.table.specs.declared.attempt.Taken.{Taken}
+use Rattle.table.specs.Calls.{Taken}
 use Rattle.table.specs.Calls.{attempt_at, beginning, taken_of}
 use Rattle.table.specs.Examples.{counted, rows, attempts}
 use Rattle.table.specs.Messages.{clear, mark, all_writes, all_reads, beginnings, messages, faults}

@@ -1,22 +1,22 @@
 -- The calls of an attempt: its next message, and taking an answer. Assumes nothing.
-use Rattle.std.specs.Prelude.{ℕ, Bool, true, false, cond, List, [], eqb, length}
+use Rattle.std.specs.Prelude.{ℕ, Bool, true, false, cond, List, [], eqb, length, Result, Err}
 use Rattle.word.specs.Words.{put}
 use Rattle.header.specs.declared.refusal.Refusal.{Refusal}
 use Rattle.header.specs.Limits.{tag_count}
-use Rattle.header.specs.Refusal.{unless}
+use Rattle.header.specs.Refusal.{refusal, unless, result_of}
 use Rattle.message.specs.Request.{written}
 use Rattle.building.specs.Build.{long_ok}
 use Rattle.initiator.specs.declared.sender.Sender.{Sender}
 use Rattle.initiator.specs.declared.sender.Taken.{Taken as Took}
 use Rattle.initiator.specs.Places.{sender_ok}
 use Rattle.initiator.specs.Sender.{idle, offer_of, take_of}
+use Rattle.layout.specs.declared.Stage.{Stage}
 use Rattle.layout.specs.declared.Stage.TheVariants.{Clear}
 use Rattle.layout.specs.Layout.{set_up_ok, request_at}
 use Rattle.table.specs.declared.attempt.Next.{Next}
 use Rattle.table.specs.declared.attempt.Next.TheVariants.{Send, Done, Ended}
 use Rattle.table.specs.declared.attempt.Attempt.{Attempt}
-use Rattle.table.specs.declared.attempt.Made.{Made}
-use Rattle.table.specs.declared.attempt.Taken.{Taken}
+use Rattle.table.specs.declared.attempt.Offered.{Offered}
 use Rattle.table.specs.Attempt.{told_of, next_by}
 
 -- a sender, and what comes next
@@ -50,7 +50,23 @@ message_fault a start room long =
     (unless (sends a.next) 30
     (unless (long_ok long) 21 0))))
 
--- what the call gives back: the message is offered to the sender, under its next tag; a refusal changes nothing
+-- the stage whose message is to be sent, by what comes next and the refusal's number
+abbrev pub due_by : Next → ℕ → Result Stage Refusal
+due_by (Send stage) number = result_of (refusal number) stage
+due_by Done number = Err (refusal number)
+due_by (Ended n) number = Err (refusal number)
+
+-- what a message comes to: the number of its refusal (0: none), its length in bytes, and the attempt then
+pub record Made : Type 0 where
+  pub refusal : ℕ
+  pub length : ℕ
+  pub attempt : Attempt
+
+-- as a function gives it back
+abbrev pub offered_of : Made → Result Offered Refusal
+offered_of made = result_of (refusal made.refusal) (record { length = made.length; attempt = made.attempt })
+
+-- the message is offered to the sender, under its next tag; a refusal changes nothing
 abbrev pub refused_with : ℕ → Attempt → Made
 refused_with number a = record { refusal = number; length = 0; attempt = a }
 
@@ -69,6 +85,15 @@ unfoldable pub made_to : Attempt → ℕ → ℕ → List ℕ → List ℕ → L
 made_to a start room rows out =
     cond (eqb (message_fault a start room (length out)) 0)
     (put out 0 (next_bytes a.next a.sender.next start rows)) out
+
+-- what an answer comes to: its refusal (number 0: none), and the attempt then
+pub record Taken : Type 0 where
+  pub refusal : Refusal
+  pub attempt : Attempt
+
+-- as a function gives it back
+abbrev pub answered_of : Taken → Result Attempt Refusal
+answered_of taken = result_of taken.refusal taken.attempt
 
 -- taking an answer: where the sender refuses it, "Nothing else [..] ends an attempt", which is as it was
 abbrev pub not_taken : Refusal → Attempt → Taken

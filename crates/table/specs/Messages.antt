@@ -10,7 +10,7 @@ use Rattle.table.specs.declared.attempt.Next.{Next}
 use Rattle.table.specs.declared.attempt.Next.TheVariants.{Send, Done}
 use Rattle.table.specs.declared.attempt.Next.TheVariants as next
 use Rattle.table.specs.declared.attempt.Attempt.{Attempt}
-use Rattle.table.specs.declared.attempt.Made.{Made}
+use Rattle.table.specs.Calls.{Made}
 use Rattle.table.specs.Calls.{attempt_at, beginning, message_fault, refused_with, made_of, made_to}
 use Rattle.table.specs.Examples.{counted, rows}
 

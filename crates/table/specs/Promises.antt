@@ -17,7 +17,7 @@ use Rattle.table.specs.declared.attempt.Next.{Next}
 use Rattle.table.specs.declared.attempt.Next.TheVariants.{Send, Done}
 use Rattle.table.specs.declared.attempt.Next.TheVariants as next
 use Rattle.table.specs.declared.attempt.Attempt.{Attempt}
-use Rattle.table.specs.declared.attempt.Made.{Made}
+use Rattle.table.specs.Calls.{Made}
 use Rattle.table.specs.Attempt.{Told, told_of, next_by}
 use Rattle.table.specs.Calls.{beginning, made_of, made_to, taken_of}
 

@@ -13,6 +13,7 @@ use channel_run::controller::Arrived;
 use channel_run::night::{End, Loader, Night};
 use channel_run::{Bytes, Channel, loader};
 use header::limits;
+use header::refusal::Refusal;
 use initiator::sender::Sender;
 use layout::Stage;
 use std::{fmt, io};
@@ -58,15 +59,16 @@ impl Life {
     fn gives(&mut self, rt: &impl Print, requests: &mut Channel) -> io::Result<()> {
         let mut bytes = [0; limits::LIMIT_BYTES];
         let words = rows::words_of(self.number);
-        let made = attempt::message(&mut bytes, self.attempt, START, ROOM, &words);
-        self.attempt = made.attempt;
-        let message = Bytes {
-            bytes,
-            n: made.length,
+        let (refusal, n) = match attempt::message(&mut bytes, self.attempt, START, ROOM, &words) {
+            Ok(offered) => {
+                self.attempt = offered.attempt;
+                (Refusal::NONE, offered.length)
+            }
+            Err(refusal) => (refusal.number, 0),
         };
-        let sent = loader::send(self.attempt.sender, &message);
+        let sent = loader::send(self.attempt.sender, &Bytes { bytes, n });
         requests.put(number(self.attempt.next), sent);
-        println!(rt; ": refusal {}, bytes {}", made.refusal, message.n)
+        println!(rt; ": refusal {refusal}, bytes {n}")
     }
 
     // This answer comes to the loader, which takes it for one to the message that waits.
@@ -77,12 +79,14 @@ impl Life {
             answer.as_slice(),
             &rows::words_of(self.number),
         );
-        self.attempt = taken.attempt;
-        println!(rt;
-            ": refusal {}, {}",
-            taken.refusal.number,
-            State(self.attempt.next)
-        )
+        let refusal = match taken {
+            Ok(attempt) => {
+                self.attempt = attempt;
+                Refusal::NONE
+            }
+            Err(refusal) => refusal.number,
+        };
+        println!(rt; ": refusal {refusal}, {}", State(self.attempt.next))
     }
 }
 

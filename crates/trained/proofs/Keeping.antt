@@ -31,7 +31,7 @@ use Rattle.layout.specs.declared.Stage.TheVariants.{Clear}
 use Rattle.table.specs.declared.attempt.Next.{Next}
 use Rattle.table.specs.declared.attempt.Next.TheVariants.{Send}
 use Rattle.table.specs.declared.attempt.Attempt.{Attempt}
-use Rattle.table.specs.declared.attempt.Taken.{Taken as Took}
+use Rattle.table.specs.Calls.{Taken as Took}
 use Rattle.table.specs.Attempt.{told_of, next_by}
 use Rattle.table.specs.Calls.{taken_of}
 use Rattle.table.specs.Promises.{came_to}

@@ -1,20 +1,18 @@
 -- What the steps of `build::add` come to, from what each step ensures. The proofs of `build` cite these. Assumes nothing.
 use Prim.Native.Nat.{ℕ, ◌+◌, ◌*◌, ◌<◌, ◌≤◌}
 use mathlib.Core.Path.{◌≡◌, refl, ap, ◌∙◌}
-use mathlib.Core.Bool.{Bool, true, false, not}
+use mathlib.Core.Bool.{Bool, true, false}
 use mathlib.Core.List.{List, [], ◌∷◌, ◌++◌}
 use native.Mathlib.Omega.{arith}
 use borrow.Author.Tests.{ltb-true}
 use lib.ListN.{length, take}
 use lib.Seq.{take-length, length-take-le}
 use Rattle.word.specs.Words.{put_words, longest}
-use Rattle.word.proofs.Rules.{eqb-on, eqb-off}
 use Rattle.word.proofs.Runs.{words-words}
 use Rattle.header.specs.declared.Kind.{Kind}
 use Rattle.header.specs.declared.Kind.TheVariants.{Nop, Write, Read, Response}
 use Rattle.header.specs.Limits.{limit}
 use Rattle.header.specs.Header.{kind_of, wide_of, address_by, address_words, data_words, header_from}
-use Rattle.header.specs.Refusal.{unless}
 use Rattle.header.proofs.Laws.Header.{data-le}
 use Rattle.message.specs.Address.{address_in, address_top}
 use Rattle.message.specs.Request.{command_words}
@@ -22,22 +20,10 @@ use Rattle.message.proofs.Laws.Addresses.{address-long, top-none, top_one, top-t
 use Rattle.message.proofs.Laws.Pieces.{command-pieces}
 use Rattle.building.specs.declared.record.Building.{Building}
 use Rattle.building.specs.declared.asked.Asked.{Asked}
-use Rattle.building.specs.declared.build.Built.{Built}
 use Rattle.building.specs.Record.{byte0_by}
-use Rattle.building.specs.Asked.{count_by, byte1_by, address_sent, data_sent, command_by, enables_fit, address_fits, narrow_ok, size_by, command_fault}
-use Rattle.building.specs.Build.{gives, usable, add_fault, close_fault, grown, shut, last_set, added, added_to, closed, closed_to}
+use Rattle.building.specs.Asked.{count_by, byte1_by, address_sent, data_sent, command_by, enables_fit, address_fits, narrow_ok, size_by, reply_by}
+use Rattle.building.specs.Build.{add_fault, grown}
 use Rattle.building.proofs.Inner.Passed.{Adds, adds}
-
--- a check that passes
-unless-on : (ok : Bool) (n x : ℕ) → ok ≡ true → x ≡ unless ok n x
-unless-on ok n x e = rw e
-
--- 21 and 22 passed, the command's own refusal is the call's
-pub add_open : (room : ℕ) (b : Building) (asked : Asked) (lent : ℕ) {byte0 count r : ℕ} {k : Kind} → usable room b ≡ true → b.closed ≡ false
-    → byte0 ≡ byte0_by b → k ≡ kind_of byte0 → count ≡ count_by k asked.count lent → r ≡ command_fault byte0 b.words b.answer asked count
-    → r ≡ add_fault room b asked lent
-unfolding add_fault
-add_open room b asked lent u o e f g h = (rw (g, f, e) at h) ∙ unless-on (not b.closed) 22 _ (rw o) ∙ unless-on (usable room b) 21 _ u
 
 -- a header, an address and data, put one behind the other
 module _ (l : List ℕ) (at h n a : ℕ) (payload : List ℕ) (k : n ≤ 2) (room : 4 * (at + (1 + (n + length payload))) ≤ length l) where
@@ -113,30 +99,8 @@ module _ (room : ℕ) (b : Building) (asked : Asked) (payload : List ℕ) (pre :
   placed-bytes out at e f g p q r t w =
       rw (command-pieces (byte0_by b) false (command_by (byte0_by b) asked payload), ← carried-is (kind_of (byte0_by b)) payload) (rw (p, q, t, r, g, f, e) at w)
 
-  pub placed-record : {byte0 count : ℕ} {k : Kind} {r : Building} → byte0 ≡ byte0_by b → k ≡ kind_of byte0 → count ≡ count_by k asked.count (length payload)
-      → r ≡ grown b count → r ≡ grown b counted
-  placed-record e f g h = rw (g, f, e) at h
-
--- the call as a whole: refused, or taken
-module _ (out : List ℕ) (b : Building) (asked : Asked) (payload : List ℕ) where
-  pub add-refused : {r : ℕ} {g : Built} → r ≡ add_fault (length out) b asked (length payload) → (r ≡ 0 → ⊥) → g ≡ gives r b
-      → (g ≡ added out b asked payload) × (out ≡ added_to out b asked payload)
-  unfolding added added_to
-  add-refused e z h = rw (eqb-off e z) ((rw e at h), refl)
-
-  pub add-taken : {r : ℕ} {g : Built} {a : Building} {m : List ℕ} → r ≡ add_fault (length out) b asked (length payload) → r ≡ 0
-      → a ≡ grown b (count_by (kind_of (byte0_by b)) asked.count (length payload)) → g ≡ gives 0 a
-      → m ≡ put_words out b.words (command_words (byte0_by b) false (command_by (byte0_by b) asked payload))
-      → (g ≡ added out b asked payload) × (m ≡ added_to out b asked payload)
-  unfolding added added_to
-  add-taken e z f h w = rw (eqb-on e z) ((rw f at h), w)
-
-module _ (out : List ℕ) (b : Building) where
-  pub close-refused : {r : ℕ} {g : Built} → r ≡ close_fault (length out) b → (r ≡ 0 → ⊥) → g ≡ gives r b → (g ≡ closed out b) × (out ≡ closed_to out b)
-  unfolding closed closed_to
-  close-refused e z h = rw (eqb-off e z) ((rw e at h), refl)
-
-  pub close-taken : {r : ℕ} {g : Built} {a : Building} {m : List ℕ} → r ≡ close_fault (length out) b → r ≡ 0 → a ≡ shut b → g ≡ gives 0 a
-      → m ≡ last_set out b.last → (g ≡ closed out b) × (m ≡ closed_to out b)
-  unfolding closed closed_to
-  close-taken e z f h w = rw (eqb-on e z) ((rw f at h), w)
+  pub placed-grown : {byte0 count s r : ℕ} {k : Kind} → byte0 ≡ byte0_by b → k ≡ kind_of byte0 → count ≡ count_by k asked.count (length payload)
+      → s ≡ size_by byte0 count → r ≡ reply_by byte0 count
+      → (b.words + s ≤ limit) × (b.answer + r ≤ limit) × (record b { words = b.words + s; last = b.words; answer = b.answer + r } ≡ grown b counted)
+  unfolding grown
+  placed-grown e f g h i = rw (i, h, g, f, e) (ok.fits.short, ok.fits.few, rw ok.opens refl)

@@ -23,7 +23,7 @@ use Rattle.message.proofs.Laws.Pieces.{open_more, replies-more, request-more, wr
 use Rattle.message.proofs.Laws.Round.{command-long}
 use Rattle.building.specs.declared.record.Building.{Building}
 use Rattle.building.specs.declared.asked.Asked.{Asked}
-use Rattle.building.specs.declared.build.Built.{Built}
+use Rattle.building.specs.Build.{Built}
 use Rattle.building.specs.Record.{start_ok, byte0_by, reachable}
 use Rattle.building.specs.Asked.{count_by, byte1_by, address_sent, data_sent, command_by, count_fits, fields_ok}
 use Rattle.building.specs.Asked.{enables_fit, address_fits, narrow_ok, size_by, reply_by, room_fits, command_fault}
@@ -31,7 +31,7 @@ use Rattle.building.specs.Build.{gives, long_ok, opened, begun, add_fault, close
 use Rattle.building.specs.Reach.{Reached}
 use Rattle.building.specs.Reach as reach
 use Rattle.building.specs.Sequence.{Adding, begins, adds}
-use Rattle.building.proofs.Inner.Passed.{Fitting}
+use Rattle.building.proofs.Inner.Passed.{bounded, Fitting}
 use Rattle.building.proofs.Laws.Reach.{reached-exactly}
 use Rattle.building.proofs.Laws.Sequence.{stands}
 
@@ -199,3 +199,7 @@ module _ {start : List ℕ} {cs : List Command} {b : Building} {out : List ℕ} 
       let n = ap (λ (g : Built). g.building.words) closed_is in
       let l = ap length (sym (written_is (byte0_by b) cs)) ∙ length-bytes (request_words (byte0_by b) cs) in
       omega (arith, n, l, (stands s).words, (some_words s some).1)
+
+  -- within the limit, in words
+  pub closed-few : (closed out b).building.words ≤ limit
+  closed-few = (bounded (closed out b).building ((reached-exactly _).0 (reach.closes (reached s) out))).words

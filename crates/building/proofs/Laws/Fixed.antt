@@ -18,7 +18,7 @@ use Rattle.message.specs.Discovery.{discovery_byte, discovery_data, discovery_co
 use Rattle.message.proofs.Laws.Fixed.{discovery-byte, discovery-kind, discovery-long, same-discovery}
 use Rattle.building.specs.declared.record.Building.{Building}
 use Rattle.building.specs.declared.asked.Asked.{Asked}
-use Rattle.building.specs.declared.build.Built.{Built}
+use Rattle.building.specs.Build.{Built}
 use Rattle.building.specs.Record.{start_ok, byte0_by, fresh_ok, nops_ok, some_ok, reachable}
 use Rattle.building.specs.Asked.{command_by, count_fits, size_by, reply_by, room_fits, command_fault}
 use Rattle.building.specs.Build.{gives, long_ok, opened, begun, add_fault, close_fault, grown, added, added_to, closed}

@@ -1,16 +1,17 @@
 -- What a refused call leaves: `refused-add-stays`, `refused-close-stays`, `refused-begin-stops`; `no_place`. Assumes nothing.
 use Prim.Native.Nat.{ℕ}
 use mathlib.Core.Path.{◌≡◌, refl, sym, ◌∙◌}
-use mathlib.Core.Bool.{Bool, true, false, cond, ◌&&◌, false≢true}
+use mathlib.Core.Bool.{Bool, true, false, not, cond, ◌&&◌, false≢true}
+use native.Mathlib.Omega.{arith}
 use mathlib.Core.List.{List}
 use lib.Dec.{eqb}
 use lib.ListN.{length}
-use Rattle.header.specs.Refusal.{refusal}
+use Rattle.header.specs.Refusal.{refusal, unless}
+use Rattle.header.proofs.Laws.Refusal.{number_is}
 use Rattle.building.specs.declared.record.Building.{Building}
-use Rattle.building.specs.declared.build.Built.{Built}
 use Rattle.building.specs.Record.{start_ok, reachable}
-use Rattle.building.specs.Build.{gives, long_ok, opened, no_building, begun, add_fault, close_fault, added, added_to, closed, closed_to}
-use Rattle.building.specs.Promises.{RefusedAddStays, RefusedCloseStays, Stopped, RefusedBeginStops, NoPlace}
+use Rattle.building.specs.Build.{Built, built_of, gives, long_ok, opened, no_building, begun, add_fault, close_fault, shut, added, added_to, closed, closed_to}
+use Rattle.building.specs.Promises.{RefusedAddStays, RefusedCloseStays, Stopped, RefusedBeginStops, over, ResultTells, NoPlace}
 use Rattle.building.proofs.Laws.Reach.{reached-exactly}
 
 -- a call whose fault is tested: accepted it gives one record and one output, refused what was there
@@ -71,3 +72,44 @@ no_place =
       add = λ out b asked payload. placeless (eqb (add_fault (length out) b asked (length payload)) 0) 0 _ _ b;
       close = λ out b. placeless (eqb (close_fault (length out) b) 0) 0 _ _ b;
     }
+
+-- accepted it tells the new record; refused, the number, which is not 0
+told : (n : ℕ) (new old : Building) → let call = cond (eqb n 0) (gives 0 new) (gives n old) in over old (built_of call) ≡ call
+told n new old = go (eqb n 0) refl
+  where
+    go : (t : Bool) → eqb n 0 ≡ t → let call = cond t (gives 0 new) (gives n old) in over old (built_of call) ≡ call
+    go true e = refl
+    go false e = rw e refl
+
+pub result-tells : ResultTells
+unfolding begun added closed
+result-tells =
+    record {
+      begin = λ old room kind tag wide discovery. begins old (long_ok room && start_ok kind tag) (opened kind tag wide discovery);
+      add = λ out b asked payload. told (add_fault (length out) b asked (length payload)) _ b;
+      close = λ out b. told (close_fault (length out) b) _ b;
+    }
+  where
+    begins : (old : Building) (t : Bool) (new : Building) → let call = cond t (gives 0 new) (gives 21 no_building) in
+        over old (built_of call) ≡ cond (eqb call.refusal.number 0) call (record { refusal = call.refusal; building = old })
+    begins old true new = refl
+    begins old false new = refl
+
+-- begun, nothing is added; and with nothing added, closing changes nothing
+pub begun-empty : (room kind tag : ℕ) (wide discovery : Bool) → (begun room kind tag wide discovery).building.words ≡ 0
+unfolding begun opened
+begun-empty room kind tag wide discovery = go (long_ok room && start_ok kind tag)
+  where
+    go : (t : Bool) → (cond t (gives 0 (opened kind tag wide discovery)) (gives 21 no_building)).building.words ≡ 0
+    go true = refl
+    go false = refl
+
+pub empty-closed : (out : List ℕ) (b : Building) → b.words ≡ 0 → ((closed out b).building ≡ b) × (closed_to out b ≡ out)
+unfolding closed close_fault
+empty-closed out b e = refused-close-stays out b (go (long_ok (length out) && reachable b) b.closed)
+  where
+    go : (t u : Bool) → let n : ℕ = unless t 21 (unless (not u && not (eqb b.words 0)) 22 0) in
+        (cond (eqb n 0) (gives 0 (shut b)) (gives n b)).refusal ≡ refusal 0 → ⊥
+    go false u h = absurd (omega (arith, number_is h))
+    go true true h = absurd (omega (arith, number_is h))
+    go true false h = absurd (omega (arith, number_is (rw e at h)))

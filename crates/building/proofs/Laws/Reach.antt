@@ -19,7 +19,7 @@ use Rattle.message.specs.Faults.{count_ok}
 use Rattle.message.proofs.Laws.Pieces.{whole_last, some_pattern}
 use Rattle.building.specs.declared.record.Building.{Building}
 use Rattle.building.specs.declared.asked.Asked.{Asked}
-use Rattle.building.specs.declared.build.Built.{Built}
+use Rattle.building.specs.Build.{Built}
 use Rattle.building.specs.Record.{start_ok, byte0_by, fresh_ok, some_ok, reachable}
 use Rattle.building.specs.Asked.{count_by, count_fits, fields_ok, enables_fit, address_fits, narrow_ok, size_by, reply_by, room_fits, command_fault}
 use Rattle.building.specs.Build.{gives, long_ok, opened, no_building, begun, add_fault, close_fault, grown, shut, added, closed}

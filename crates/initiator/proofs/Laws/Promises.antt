@@ -136,6 +136,14 @@ was-own s message answer z =
       ap tag_of (judge-first h.request answer l.items h.judged) ∙ answer-tag h.request.byte0 ∙ ap tag_of (sym byte),
     )
 
+-- an accepted answer's refusal is none, its index too
+pub accepted-plain : (s : Sender) (message answer : List ℕ) → (take_of s message answer).refusal.number ≡ 0
+    → (take_of s message answer).refusal ≡ refusal 0
+accepted-plain s message answer z =
+    let l = let_by s message answer z in
+    let place : ℕ = place_in s (tag_of (get_or message 0 0)) in
+    ap (λ (m : Taken). m.refusal) (take-judged s message answer l.own ∙ ap (taken_by s place) l.told) ∙ accepted-none s place
+
 pub accepted : (s : Sender) (message answer : List ℕ) → Bytes message → Bytes answer → AcceptedIs s message answer
 accepted s message answer bm ba z =
     let l = let_by s message answer z in

@@ -4,9 +4,13 @@ use mathlib.Core.Path.{◌≡◌, sym, ap, ◌∙◌}
 use mathlib.Core.Bool.{true, false, ◌&&◌}
 use mathlib.Core.List.{List, [], ◌∷◌, ◌++◌}
 use native.Mathlib.Omega.{arith}
+use mathlib.Core.Logic.{◌⊎◌, inl, inr}
 use lib.Dec.{ltb}
 use lib.ListN.{length}
 use Rattle.word.specs.Words.{Words}
+use Rattle.std.proofs.Common.{Result}
+use Rattle.std.specs.Prelude.{IsOkAnd}
+use Rattle.header.specs.declared.refusal.Refusal.{Refusal}
 use Rattle.header.specs.declared.Kind.{Kind}
 use Rattle.header.specs.declared.Kind.TheVariants.{Write, Read}
 use Rattle.header.specs.Limits.{limit, tag_count}
@@ -18,14 +22,14 @@ use Rattle.building.specs.declared.record.Building.{Building}
 use Rattle.building.specs.declared.asked.Asked.{Asked}
 use Rattle.building.specs.Record.{byte0_by}
 use Rattle.building.specs.Asked.{command_by}
-use Rattle.building.specs.Build.{long_ok, begun, added, added_to}
+use Rattle.building.specs.Build.{built_of, long_ok, begun, added, added_to}
 use Rattle.building.specs.Reach.{Lent}
 use Rattle.building.specs.Sequence.{begins, adds}
 use Rattle.building.proofs.Laws.Fitting.{begun-well, begun-byte, command-asked, added-well, added-byte}
 use Rattle.layout.specs.declared.Stage.{Stage}
-use Rattle.layout.specs.declared.Stage.TheVariants.{Clear, Rows, Back, Mark}
-use Rattle.layout.specs.Layout.{each_from, row_count, complete, row_of, mark_write}
-use Rattle.layout.specs.Filling.{Going, Below, row_by, Rowed, writes, reads, Row, RowsAdded, MarkAdded, StageAdded}
+use Rattle.layout.specs.declared.Stage.TheVariants.{Rows, Back}
+use Rattle.layout.specs.Layout.{each_from, row_count, row_of, mark_write}
+use Rattle.layout.specs.Filling.{Going, Below, row_by, Rowed, writes, reads, Row, RowsAdded, StageAdded}
 use Rattle.layout.proofs.Laws.Layout.{row-long, row-write-is, row-read-is, mark-write-is}
 use Rattle.layout.proofs.Inner.Wanted.{row_asked, mark_asked}
 use Rattle.layout.proofs.Inner.Commands.{byte_of, each-end, one_each, open-long, replies-long}
@@ -52,8 +56,8 @@ module _ {o : List ℕ} {kind : Kind} {tag : ℕ} {cs : List Command} {b : Build
     (e : command_by (byte_of kind tag) asked payload ≡ c) (f : FitsCommand (byte_of kind tag) c)
     (short : length (open_words (byte_of kind tag) (cs ++ c ∷ [])) ≤ limit)
     (few : replies (byte_of kind tag) (cs ++ c ∷ []) ≤ limit) where
-  going_more : {b' : Building} {out' : List ℕ} → b' ≡ (added out b asked payload).building
-      → out' ≡ added_to out b asked payload → Going o kind tag (cs ++ c ∷ []) b' out'
+  going_more : {result : Result Building Refusal} {out' : List ℕ} → result ≡ built_of (added out b asked payload)
+      → out' ≡ added_to out b asked payload → IsOkAnd result (λ b'. Going o kind tag (cs ++ c ∷ []) b' out')
   going_more p q =
       let d : Command = command_by (byte0_by b) asked payload in
       let is : d ≡ c = rw g.byte0 e in
@@ -61,11 +65,12 @@ module _ {o : List ℕ} {kind : Kind} {tag : ℕ} {cs : List Command} {b : Build
       let short' : length (open_words (byte0_by b) (cs ++ d ∷ [])) ≤ limit = rw (g.byte0, e) short in
       let few' : replies (byte0_by b) (cs ++ d ∷ []) ≤ limit = rw (g.byte0, e) few in
       let well = added-well g.adding asked payload first last f' short' few' in
-      record {
-        adding = rw (p, q, ← is) (adds g.adding asked payload l well);
+      rw (p, well)
+      (record {
+        adding = rw (q, ← is) (adds g.adding asked payload l well);
         small = g.small;
-        byte0 = ap byte0_by p ∙ added-byte g.adding asked payload first last f' short' few' ∙ g.byte0;
-      }
+        byte0 = added-byte g.adding asked payload first last f' short' few' ∙ g.byte0;
+      })
 
 -- what is asked for is the row's command or the mark's, and the message stays within the limit
 row-asked : {kind : Kind} → Rowed kind → (tag : ℕ) → tag < tag_count → (start : ℕ) (rows : List ℕ) (i : ℕ)
@@ -85,11 +90,11 @@ row_room : {kind : Kind} → Rowed kind → (i : ℕ) → i < row_count
 row_room writes i h = (omega arith, omega arith)
 row_room reads i h = (omega arith, omega arith)
 
-module _ {b : Building} {out payload : List ℕ} {b' : Building} {out' : List ℕ} (w : Words payload) where
+module _ {b : Building} {out payload : List ℕ} {result : Result Building Refusal} {out' : List ℕ} (w : Words payload) where
   pub row-added : {o : List ℕ} {kind : Kind} {tag : ℕ} (start : ℕ) (rows : List ℕ) (i : ℕ) → i < row_count → Below start
-      → payload ≡ row_of rows i → b' ≡ (added out b (row_asked start i) payload).building
+      → payload ≡ row_of rows i → result ≡ built_of (added out b (row_asked start i) payload)
       → out' ≡ added_to out b (row_asked start i) payload → Rowed kind → Row o kind tag start rows i b out
-      → Row o kind tag start rows (i + 1) b' out'
+      → IsOkAnd result (λ b'. Row o kind tag start rows (i + 1) b' out')
   row-added {kind = kind} {tag = tag} start rows i h below z p q r g =
       let v : Words (row_of rows i) = rw z at w in
       let row : ℕ → Command = row_by kind start rows in
@@ -104,8 +109,8 @@ module _ {b : Building} {out payload : List ℕ} {b' : Building} {out' : List �
       (rw n (omega (arith, replies-long s (suc i), room))) (rw z at p) (rw z at q))
 
   pub mark-added : {o : List ℕ} {tag : ℕ} (start value : ℕ) → Below start → payload ≡ value ∷ []
-      → b' ≡ (added out b (mark_asked start) payload).building → out' ≡ added_to out b (mark_asked start) payload
-      → Going o Write tag [] b out → Going o Write tag (mark_write start value ∷ []) b' out'
+      → result ≡ built_of (added out b (mark_asked start) payload) → out' ≡ added_to out b (mark_asked start) payload
+      → Going o Write tag [] b out → IsOkAnd result (λ b'. Going o Write tag (mark_write start value ∷ []) b' out')
   mark-added {tag = tag} start value below z p q g =
       let v : Words (value ∷ []) = rw z at w in
       let c : Command = mark_write start value in
@@ -115,18 +120,10 @@ module _ {b : Building} {out payload : List ℕ} {b' : Building} {out' : List �
       (mark-fits tag g.small start value below v) (rw (one_each c) (omega (arith, open-long s 1)))
       (rw (one_each c) (omega (arith, replies-long s 1))) (rw z at p) (rw z at q)
 
--- a stage's commands, as the calls add them
-module _ (start : ℕ) (rows : List ℕ) {stage : Stage} {b : Building} {out : List ℕ} {b' : Building} {out' : List ℕ} where
-  pub fill-clear : stage ≡ Clear → MarkAdded start 0 b out b' out' → StageAdded stage start rows b out b' out'
-  fill-clear e f = rw e f
-
-  pub fill-rows : stage ≡ Rows → RowsAdded start rows row_count b out b' out' → StageAdded stage start rows b out b' out'
-  unfolding each_from
-  fill-rows e f = rw e (λ o tag g. f o Write tag writes g)
-
-  pub fill-back : stage ≡ Back → RowsAdded start rows row_count b out b' out' → StageAdded stage start rows b out b' out'
-  unfolding each_from
-  fill-back e f = rw e (λ o tag g. f o Read tag reads g)
-
-  pub fill-mark : stage ≡ Mark → MarkAdded start complete b out b' out' → StageAdded stage start rows b out b' out'
-  fill-mark e f = rw e f
+-- a stage of rows, as the calls add them
+pub fill-rows : (start : ℕ) (rows : List ℕ) {stage : Stage} (b : Building) (out : List ℕ) (result : Result Building Refusal)
+    (out' : List ℕ) → (stage ≡ Rows) ⊎ (stage ≡ Back) → RowsAdded start rows row_count b out result out'
+    → StageAdded stage start rows b out result out'
+unfolding each_from
+fill-rows start rows b out result out' (inl e) f = rw e (λ o tag g. f o Write tag writes g)
+fill-rows start rows b out result out' (inr e) f = rw e (λ o tag g. f o Read tag reads g)

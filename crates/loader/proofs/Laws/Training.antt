@@ -6,8 +6,8 @@ use lib.Dec.{eqb}
 use Rattle.layout.specs.declared.Stage.TheVariants.{Clear, Rows, Back, Mark}
 use Rattle.table.specs.declared.attempt.Next.{Next}
 use Rattle.table.specs.declared.attempt.Next.TheVariants.{Send, Done, Ended}
-use Rattle.table.specs.declared.attempt.Made.{Made}
-use Rattle.table.specs.declared.attempt.Taken.{Taken}
+use Rattle.table.specs.Calls.{Made}
+use Rattle.table.specs.Calls.{Taken}
 use Rattle.table.specs.Calls.{attempt_at, made_of, taken_of}
 use Rattle.table.proofs.Laws.Calls.{made-refusal, made-refused}
 use Rattle.table.proofs.Laws.Promises.{refused-stays}

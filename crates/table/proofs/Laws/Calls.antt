@@ -23,8 +23,8 @@ use Rattle.layout.proofs.Laws.Layout.{set-up-ok, set-up-fine}
 use Rattle.table.specs.declared.attempt.Next.{Next}
 use Rattle.table.specs.declared.attempt.Next.TheVariants.{Send, Done, Ended}
 use Rattle.table.specs.declared.attempt.Attempt.{Attempt}
-use Rattle.table.specs.declared.attempt.Made.{Made}
-use Rattle.table.specs.declared.attempt.Taken.{Taken}
+use Rattle.table.specs.Calls.{Made}
+use Rattle.table.specs.Calls.{Taken}
 use Rattle.table.specs.Attempt.{told_of, next_by}
 use Rattle.table.specs.Calls.{attempt_at, beginning, sends, next_bytes, message_fault, refused_with, given_with}
 use Rattle.table.specs.Calls.{made_of, made_to, not_taken, taken_of}

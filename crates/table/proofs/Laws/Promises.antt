@@ -34,8 +34,8 @@ use Rattle.table.specs.declared.attempt.Next.{Next}
 use Rattle.table.specs.declared.attempt.Next.TheVariants.{Send, Done}
 use Rattle.table.specs.declared.attempt.Next.TheVariants as next
 use Rattle.table.specs.declared.attempt.Attempt.{Attempt}
-use Rattle.table.specs.declared.attempt.Made.{Made}
-use Rattle.table.specs.declared.attempt.Taken.{Taken}
+use Rattle.table.specs.Calls.{Made}
+use Rattle.table.specs.Calls.{Taken}
 use Rattle.table.specs.Attempt.{Told, told_of, next_of, next_by}
 use Rattle.table.specs.Calls.{message_fault, made_of, made_to, taken_of}
 use Rattle.table.specs.Promises.{came_to, Well, AsSent, EveryRow, FirstNot, CameExactly, BegunWaiting}

@@ -2,15 +2,12 @@
 use Rattle.loader.proofs.ByNumbers.{answer-refused, answer-accepted}
 use Rattle.loader.proofs.training.charkhavo_table_take.Goals as goal
 
-pub returns-then-refusal-ne0 : goal.returns-then-refusal-ne0
-returns-then-refusal-ne0 c =
+pub returns-in-Ok : goal.returns-in-Ok
+returns-in-Ok c =
     let a = c.args in
-    answer-refused a.attempt c.attempt_of.result c.take-taken.result a.message.now
-    a.answer.now a.rows.now c.attempt_of.ensures c.take-taken.ensures c.if-refusal-ne0.true
+    rw c.of.ensures (answer-accepted a.attempt c.attempt_of.ensures a.message.now a.answer.now a.rows.now c.in-Ok.ensures _ c.numbers_of.ensures)
 
-pub returns : goal.returns
-returns c =
+pub returns-in-Err : goal.returns-in-Err
+returns-in-Err c =
     let a = c.args in
-    answer-accepted a.attempt c.attempt_of.result c.take-taken.result a.message.now
-    a.answer.now a.rows.now c.attempt_of.ensures c.take-taken.ensures
-    c.numbers_of.result c.if-refusal-ne0.false c.numbers_of.ensures
+    answer-refused a.attempt c.attempt_of.ensures a.message.now a.answer.now a.rows.now c.in-Err.ensures

@@ -1,29 +1,35 @@
 -- `table::attempt::message` meets its contract: refused, or the message of its stage. Assumes nothing.
-use Rattle.table.proofs.Inner.Making.{refuses, at_some, may-offer, at_stage}
+use Rattle.std.proofs.Common.{◌≡◌, Err, rules}
+use mathlib.Core.Path.{sym}
+use lib.Seq.{length-take-le}
+use Rattle.table.proofs.Inner.Making.{refuses, write-goes, fits, makes}
 use Rattle.table.proofs.attempt.message.Goals as goal
 
-pub returns-then-fault-ne0 : goal.returns-then-fault-ne0
-returns-then-fault-ne0 c =
+pub returns-in_err-stage : goal.returns-in_err-stage
+returns-in_err-stage c =
     let a = c.args in
-    refuses a.attempt a.start a.room a.rows.now a.out.now c.message_fault-fault.ensures
-    c.if-fault-ne0.true c.refused.ensures
+    let e : c.from_residual.result ≡ Err c.in_err-stage.field-0.0 = search rules in
+    rw e (refuses a.attempt a.start a.room a.rows.now a.out.now c.in_err-stage.ensures)
 
--- never reached
-pub returns-in_default : goal.returns-in_default
-returns-in_default c =
+pub returns-in_err-length : goal.returns-in_err-length
+returns-in_err-length c =
     let a = c.args in
-    let s = at_some a.attempt a.start a.room a.rows.now a.out.now c.message_fault-fault.ensures
-    c.if-fault-ne0.false in
-    absurd (c.in_default.not-Send s.0 s.1)
+    absurd
+    (write-goes a.attempt a.start a.room a.rows.now a.out.now c.in_ok-stage.ensures (search rules) c.in_err-length.ensures.0)
 
-pub offered-requires : goal.offered-requires
-offered-requires c =
+pub slice_bounds-offer-end : goal.slice_bounds-offer-end
+slice_bounds-offer-end c =
     let a = c.args in
-    may-offer a.attempt a.start a.room a.rows.now a.out.now c.message_fault-fault.ensures
-    c.if-fault-ne0.false c.in-Send.is
+    fits a.attempt a.start a.room a.rows.now a.out.now c.in_ok-stage.ensures (search rules) c.in_ok-length.ensures.0 c.write.ensures.1
+
+pub slice_bounds-offer-end-2 : goal.slice_bounds-offer-end-2
+slice_bounds-offer-end-2 c =
+    let a = c.args in
+    sym
+    (length-take-le _ _
+    (fits a.attempt a.start a.room a.rows.now a.out.now c.in_ok-stage.ensures (search rules) c.in_ok-length.ensures.0 c.write.ensures.1))
 
 pub returns : goal.returns
 returns c =
     let a = c.args in
-    at_stage a.attempt a.start a.room a.rows.now a.out.now c.message_fault-fault.ensures
-    c.if-fault-ne0.false c.in-Send.is c.offered.ensures
+    makes a.attempt a.start a.room a.rows.now a.out.now c.in_ok-stage.ensures (search rules) c.in_ok-length.ensures.0 c.write.ensures.1 c.offer-moved.ensures

@@ -2,9 +2,8 @@
 use Rattle.table.proofs.Inner.Taken.{refused, accepted}
 use Rattle.table.proofs.attempt.take.Goals as goal
 
-pub returns-then-refusal-ne0 : goal.returns-then-refusal-ne0
-returns-then-refusal-ne0 c = refused _ _ _ _ c.take-taken.ensures c.if-refusal-ne0.true
+pub returns-then-taken-ne0 : goal.returns-then-taken-ne0
+returns-then-taken-ne0 c = refused _ _ _ _ c.take-taken.ensures c.if-taken-ne0.true
 
 pub returns : goal.returns
-returns c =
-    accepted _ _ _ _ c.take-taken.ensures c.if-refusal-ne0.false c.next_by-next.ensures
+returns c = accepted _ _ _ _ c.take-taken.ensures c.if-taken-ne0.false c.next_by.ensures
