@@ -4,9 +4,9 @@
 
 use building::asked::Asked;
 use building::build;
-use building::build::Built;
 use building::record::Building;
 use header::limits;
+use header::refusal::Refusal;
 use message::discovery;
 use show::WordsIn;
 use std::io;
@@ -22,13 +22,26 @@ pub(crate) const READ: u32 = 2;
 // The words that messages are built from.
 const DATA: [u32; 3] = [0xFEED_C0DE, 0x1111_1111, 0x2222_2222];
 
-// What begin is asked for.
-#[derive(Clone, Copy)]
-struct Begun {
-    kind: u32,
-    tag: u32,
-    wide: bool,
-    discovery: bool,
+// The record of a message with nothing added, without the discovery bit, of 32-bit addresses.
+pub(crate) fn narrow(kind: u32, tag: u32) -> Building {
+    Building {
+        kind,
+        tag,
+        wide: false,
+        discovery: false,
+        words: 0,
+        last: 0,
+        answer: 0,
+        closed: false,
+    }
+}
+
+// The same of 64-bit addresses.
+fn wide(kind: u32, tag: u32) -> Building {
+    Building {
+        wide: true,
+        ..narrow(kind, tag)
+    }
 }
 
 // A command with no enables, for what looks at none.
@@ -50,10 +63,17 @@ pub(crate) fn write_at(address: u64, first: u32, last: u32) -> Asked {
     }
 }
 
-// What a call gave, behind its name.
-pub(crate) fn told(rt: &impl Print, name: &str, given: Built) -> io::Result<Building> {
-    let b = given.building;
-    let number = given.refusal.number;
+// What a call gave, behind its name: its refusal, 0 for none, and the record, which a refused call leaves as it was.
+pub(crate) fn told(
+    rt: &impl Print,
+    name: &str,
+    before: Building,
+    given: Result<Building, Refusal>,
+) -> io::Result<Building> {
+    let (number, b) = match given {
+        Ok(b) => (Refusal::NONE, b),
+        Err(refusal) => (refusal.number, before),
+    };
     let state = if b.closed { "closed" } else { "open" };
     println!(rt;
         "{name}: refusal {number}, words {}, last {}, answer {}, {state}",
@@ -66,41 +86,23 @@ pub(crate) fn told(rt: &impl Print, name: &str, given: Built) -> io::Result<Buil
 fn built(
     rt: &impl Print,
     heading: &str,
-    begun: Begun,
+    begun: Building,
     commands: &[(Asked, &[u32])],
 ) -> io::Result<()> {
     let mut out = [0u8; limits::LIMIT_BYTES];
     println!(rt; "{heading}")?;
     let given = build::begin(&out, begun.kind, begun.tag, begun.wide, begun.discovery);
-    let mut b = told(rt, "begin", given)?;
+    let mut b = told(rt, "begin", begun, given)?;
     for (asked, words) in commands {
-        b = told(rt, "add", build::add(&mut out, b, *asked, words))?;
+        b = told(rt, "add", b, build::add(&mut out, b, *asked, words))?;
     }
-    let b = told(rt, "close", build::close(&mut out, b))?;
+    let b = told(rt, "close", b, build::close(&mut out, b))?;
     println!(rt; "{}", WordsIn(show::front(&out, b.words.saturating_mul(4))))
-}
-
-// A message without the discovery bit, of 32-bit addresses.
-fn narrow(kind: u32, tag: u32) -> Begun {
-    Begun {
-        kind,
-        tag,
-        wide: false,
-        discovery: false,
-    }
-}
-
-// The same of 64-bit addresses.
-fn wide(kind: u32, tag: u32) -> Begun {
-    Begun {
-        wide: true,
-        ..narrow(kind, tag)
-    }
 }
 
 // The fixed discovery, built, and as it is kept.
 fn fixed(rt: &impl Print) -> io::Result<()> {
-    let begun = Begun {
+    let begun = Building {
         discovery: true,
         ..narrow(NOP, 0)
     };

@@ -1,5 +1,5 @@
 // Every refusal 21 to 26: what is tried, and the number that it gets.
-use crate::{NOP, READ, WRITE, plain, told, write_at};
+use crate::{NOP, READ, WRITE, narrow, plain, told, write_at};
 use building::asked::Asked;
 use building::build;
 use building::record::Building;
@@ -10,27 +10,24 @@ use std::io;
 fn begins(rt: &impl Print, label: &str, bytes: usize, kind: u32, tag: u32) -> io::Result<()> {
     let out = [0u8; limits::LIMIT_BYTES];
     let given = build::begin(show::front(&out, bytes), kind, tag, false, false);
-    told(rt, label, given)?;
+    told(rt, label, narrow(kind, tag), given)?;
     Ok(())
 }
 
 // A record as a caller may hand it in.
 fn record(kind: u32, words: usize, last: usize, answer: usize, closed: bool) -> Building {
     Building {
-        kind,
-        tag: 0,
-        wide: false,
-        discovery: false,
         words,
         last,
         answer,
         closed,
+        ..narrow(kind, 0)
     }
 }
 
 fn closes(rt: &impl Print, label: &str, b: Building) -> io::Result<()> {
     let mut out = [0u8; limits::LIMIT_BYTES];
-    told(rt, label, build::close(&mut out, b))?;
+    told(rt, label, b, build::close(&mut out, b))?;
     Ok(())
 }
 
@@ -39,13 +36,13 @@ fn adds(rt: &impl Print, label: &str, b: Building, asked: Asked, n: usize) -> io
     let mut out = [0u8; limits::LIMIT_BYTES];
     let words = [0u32; 4096];
     let given = build::add(&mut out, b, asked, show::front(&words, n));
-    told(rt, label, given)?;
+    told(rt, label, b, given)?;
     Ok(())
 }
 
 // The first command of a message.
 fn adds_first(rt: &impl Print, label: &str, kind: u32, asked: Asked, n: usize) -> io::Result<()> {
-    adds(rt, label, record(kind, 0, 0, 0, false), asked, n)
+    adds(rt, label, narrow(kind, 0), asked, n)
 }
 
 // A write of so many words.
