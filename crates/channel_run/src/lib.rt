@@ -63,6 +63,7 @@ impl Channel {
     }
 
     // What is there at this number.
+    #[tactic(auto, unfolding(crate::specs::Bytes::place_of))]
     pub fn get(&self, i: u32) -> Bytes
         ensures { result ≡ place_of self.now.places i }
     {
@@ -70,6 +71,7 @@ impl Channel {
     }
 
     // This datagram is put there, where it is one.
+    #[tactic(auto, unfolding(crate::specs::Bytes::placed))]
     pub fn put(&mut self, i: u32, datagram: Bytes)
         ensures { self.new.places ≡ placed self.old.places i datagram }
     {
