@@ -37,12 +37,7 @@ impl Building {
         ensures value { result ≡ byte0_by self }
         ensures below { result < 256 }
     {
-        header::byte0_from(
-            self.tag,
-            header::kind_no(self.kind),
-            self.wide,
-            self.discovery,
-        )
+        header::byte0_from(self.tag, Kind::from(self.kind), self.wide, self.discovery)
     }
 
     // Whether the record is one with nothing added, but for begin's four.

@@ -92,7 +92,7 @@ fn build_one(
     requires { out.old ≡ zeros }
     ensures { OneBuilt (number_of kind) tag asked word result out.new }
 {
-    let begun = build::begin(out, header::number(kind), tag, false, false)?;
+    let begun = build::begin(out, u32::from(kind), tag, false, false)?;
     let added = build::add(out, begun, asked, &[word])?;
     let closed = build::close(out, added)?;
     Ok(4 * closed.words)

@@ -12,9 +12,9 @@ use Rattle.word.specs.contracts.run.copy_bytes as CopyBytes
 use Rattle.word.specs.contracts.run.same_words as SameWords
 use Rattle.header.specs.contracts.tag as Tag
 use Rattle.header.specs.contracts.next_tag as NextTag
-use Rattle.header.specs.contracts.kind_no as KindNo
+use Rattle.header.specs.contracts.KindFromU32.from as KindNo
 use Rattle.header.specs.contracts.kind_of as KindOf
-use Rattle.header.specs.contracts.number as Number
+use Rattle.header.specs.contracts.U32FromKind.from as Number
 use Rattle.header.specs.contracts.wide as Wide
 use Rattle.header.specs.contracts.discovery as Discovery
 use Rattle.header.specs.contracts.byte0 as Byte0

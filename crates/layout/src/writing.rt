@@ -98,7 +98,7 @@ pub fn write(
 {
     crate::set_up(start, room)?;
     let table = Table { start, rows };
-    let begun = build::begin(out, header::number(kind_at(stage)), tag, false, false)?;
+    let begun = build::begin(out, u32::from(kind_at(stage)), tag, false, false)?;
     let filled = table.fill(out, begun, stage)?;
     let closed = build::close(out, filled)?;
     Ok(4 * closed.words)

@@ -6,6 +6,7 @@ use native.Mathlib.Omega.{arith}
 use borrow.Author.Tests.{eq-eqb, ne_eqb}
 use lib.Arith.{mod-mul}
 use lib.Dec.{eqb, lit<}
+use Rattle.std.specs.Int.{from_bool}
 use Rattle.header.specs.declared.Kind.{Kind}
 use Rattle.header.specs.declared.Kind.TheVariants.{Nop, Write, Read, Response}
 use Rattle.header.specs.Header.{tag_of, number_of, kind_no, kind_of, wide_of, discovery_of, byte0_of, byte1_of, count_of, reserved_of, last_of, bit, byte0_from, header_from, address_by, address_words, data_words, reply_words}
@@ -43,6 +44,11 @@ number_lt Response = omega arith
 bit-lt : (b : Bool) → bit b < 2
 bit-lt true = omega arith
 bit-lt false = omega arith
+
+-- a flag as a number, as the library has it
+pub bit-is : (b : Bool) → from_bool b ≡ bit b
+bit-is true = refl
+bit-is false = refl
 
 -- a bit that was written is read back, and the other way
 bit-back : (n : ℕ) (b : Bool) → n ≡ bit b → not (eqb n 0) ≡ b

@@ -1,10 +1,10 @@
--- `header::kind_no` meets its contract: each arm is a case of `kind_no`. Assumes nothing.
+-- A kind from a number is the one that it names: each arm is a case of `kind_no`. Assumes nothing.
 use native.Mathlib.Omega.{arith}
 use mathlib.Core.Path.{◌≡◌}
 use borrow.Author.Rules.{rules}
 use Rattle.header.specs.Header.{kind_no}
 use Rattle.header.proofs.Laws.Header.{kind-rest}
-use Rattle.header.proofs.kind_no.Goals as goal
+use Rattle.header.proofs.KindFromU32.from.Goals as goal
 
 pub returns-in-0 : goal.returns-in-0
 unfolding kind_no
