@@ -1,7 +1,7 @@
 // The controller on the bench, and a datagram served there.
 use completer::serving;
-use completer::serving::Served;
 use header::limits;
+use header::refusal::Refusal;
 use show::{Words, WordsIn};
 use std::{fmt, io};
 use tags::record::TagRecord;
@@ -19,18 +19,19 @@ pub(crate) struct Bench<'a, P: Print + AllocGlobal> {
 // The refusal, or the words sent.
 #[derive(Clone, Copy)]
 struct Sent<'a> {
-    served: Served,
+    served: Result<usize, Refusal>,
     output: &'a [u8],
 }
 
 impl fmt::Display for Sent<'_> {
     fn fmt<W: fmt::Write>(&self, f: &mut fmt::Formatter<W>) -> fmt::Result {
-        let refusal = self.served.refusal;
-        if refusal.number != 0 {
-            return write!(f, "refused {} at {}", refusal.number, refusal.at);
+        match self.served {
+            Ok(n) => {
+                let sent = show::front(self.output, n);
+                write!(f, "sent {} words{}", sent.len() / 4, WordsIn(sent))
+            },
+            Err(refusal) => write!(f, "refused {} at {}", refusal.number, refusal.at),
         }
-        let sent = show::front(self.output, self.served.sent);
-        write!(f, "sent {} words{}", sent.len() / 4, WordsIn(sent))
     }
 }
 
@@ -83,10 +84,9 @@ impl<'a, P: Print + AllocGlobal> Bench<'a, P> {
             &mut self.stored,
             &mut self.kept,
             &mut output,
-            self.tags,
+            &mut self.tags,
             datagram,
         );
-        self.tags = served.tags;
         let sent = Sent {
             served,
             output: &output,

@@ -59,16 +59,16 @@ impl Controller {
             &mut self.stored,
             &mut self.kept,
             &mut bytes,
-            self.tags,
+            &mut self.tags,
             datagram,
         );
-        self.tags = served.tags;
+        let (refusal, n) = match served {
+            Ok(n) => (Refusal::of(Refusal::NONE), n),
+            Err(refusal) => (refusal, 0),
+        };
         Arrived {
-            refusal: served.refusal,
-            answer: Bytes {
-                bytes,
-                n: served.sent,
-            },
+            refusal,
+            answer: Bytes { bytes, n },
         }
     }
 }

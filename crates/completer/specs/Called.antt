@@ -1,6 +1,6 @@
 -- What is promised of a call, each about one thing, for whoever stands above it. The proofs are in
 -- proofs/Laws/Called.antt, Served.antt and Discovered.antt. Assumes nothing.
-use Rattle.std.specs.Prelude.{ℕ, ◌+◌, ◌<◌, ◌≡◌, Bool, true, false, ◌&&◌, ◌⊎◌, List, [], ◌∷◌, ◌++◌, length, take}
+use Rattle.std.specs.Prelude.{ℕ, ◌+◌, ◌<◌, ◌≡◌, Bool, true, false, ◌&&◌, ◌⊎◌, List, [], ◌∷◌, ◌++◌, length, take, Ok}
 use Rattle.word.specs.Words.{bytes_of, Bytes, Words}
 use Rattle.header.specs.declared.refusal.Refusal.{Refusal}
 use Rattle.header.specs.Header.{tag_of, discovery_of}
@@ -63,7 +63,7 @@ pub record Stored (answer dg : List ℕ) (a : After) : Type 0 where
   pub sent : take a.sent a.output ≡ bytes_of answer
 
 abbrev pub NewStores : Controller → List ℕ → List ℕ → Type 0
-NewStores c o dg = verdict_of c o dg ≡ New → Stored (answer_by c (request_of dg)) dg (after c o dg)
+NewStores c o dg = verdict_of c o dg ≡ Ok New → Stored (answer_by c (request_of dg)) dg (after c o dg)
 
 -- what c held for a tag, d holds
 pub record SameFor (c d : Controller) (tag : ℕ) : Type 0 where
@@ -74,13 +74,13 @@ pub record SameFor (c d : Controller) (tag : ℕ) : Type 0 where
 -- [9] "keeps the last four answers with their tags": whatever else is held after a new message was held before it, with
 -- the same answer and the same request
 abbrev pub OthersStay : Controller → List ℕ → List ℕ → Type 0
-OthersStay c o dg = Words c.memory → Bytes dg → verdict_of c o dg ≡ New → (tag : ℕ) → tag < 16
+OthersStay c o dg = Words c.memory → Bytes dg → verdict_of c o dg ≡ Ok New → (tag : ℕ) → tag < 16
     → holds (after c o dg).controller.tags tag ≡ true → (tag ≡ tag_in dg → ⊥)
     → SameFor c (after c o dg).controller tag
 
 -- and all that were held stay held, but for the fourth
 abbrev pub FourHeld : Controller → List ℕ → List ℕ → Type 0
-FourHeld c o dg = verdict_of c o dg ≡ New → (tag : ℕ) → tag < 16 → holds c.tags tag ≡ true
+FourHeld c o dg = verdict_of c o dg ≡ Ok New → (tag : ℕ) → tag < 16 → holds c.tags tag ≡ true
     → back c.tags.tag tag + 1 < places → holds (after c o dg).controller.tags tag ≡ true
 
 -- "to answer repeats of any": "the stored answer is sent, nothing else happens"; it is the one of the message's own
@@ -93,7 +93,7 @@ pub record SentAgain (c : Controller) (dg : List ℕ) (tag : ℕ) (a : After) : 
   pub controller : a.controller ≡ c
 
 abbrev pub RepeatSends : Controller → List ℕ → List ℕ → Type 0
-RepeatSends c o dg = (tag : ℕ) → verdict_of c o dg ≡ Repeat tag → SentAgain c dg tag (after c o dg)
+RepeatSends c o dg = (tag : ℕ) → verdict_of c o dg ≡ Ok (Repeat tag) → SentAgain c dg tag (after c o dg)
 
 -- "the message is carried out, and tag and stored answer stay"; so does the kept request
 pub record Stays (c d : Controller) : Type 0 where
@@ -102,7 +102,7 @@ pub record Stays (c d : Controller) : Type 0 where
   pub kept : d.kept ≡ c.kept
 
 abbrev pub DiscoveryKeeps : Controller → List ℕ → List ℕ → Type 0
-DiscoveryKeeps c o dg = verdict_of c o dg ≡ Discovery → Stays c (after c o dg).controller
+DiscoveryKeeps c o dg = verdict_of c o dg ≡ Ok Discovery → Stays c (after c o dg).controller
 
 -- the answer to the fixed discovery depends on the newest tag alone
 abbrev pub DiscoveryAnswered : Controller → List ℕ → Type 0
@@ -119,7 +119,7 @@ pub record LastNew (c : Controller) (calls : List (List ℕ × List ℕ)) (d : C
   pub call : List ℕ × List ℕ
   pub behind : List (List ℕ × List ℕ)
   pub are : calls ≡ before ++ (call ∷ behind)
-  pub new : verdict_of (served c before) call.0 call.1 ≡ New
+  pub new : verdict_of (served c before) call.0 call.1 ≡ Ok New
   pub of : tag_in call.1 ≡ tag
   pub kept : request_in d.kept d.tags tag ≡ call.1
   pub stored : answer_in d.stored d.tags tag ≡ answer_by (served c before) (request_of call.1)

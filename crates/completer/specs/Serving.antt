@@ -1,5 +1,5 @@
 -- The call: what is there after it. Assumes nothing.
-use Rattle.std.specs.Prelude.{ℕ, ◌*◌, ◌/◌, true, List, length}
+use Rattle.std.specs.Prelude.{ℕ, ◌*◌, ◌/◌, true, List, length, Ok, Err}
 use Rattle.word.specs.Words.{put, put_words}
 use Rattle.header.specs.Limits.{limit, limit_bytes}
 use Rattle.header.specs.Header.{tag_of}
@@ -8,9 +8,9 @@ use Rattle.message.specs.Request.{Request}
 use Rattle.message.specs.Walk.{request_of}
 use Rattle.memory.specs.Moves.{memory_after}
 use Rattle.carrying.specs.Answers.{words_to}
-use Rattle.tags.specs.declared.rule.Verdict.{Verdict}
-use Rattle.tags.specs.declared.rule.Verdict.TheVariants.{Refused, New, Repeat, Discovery}
+use Rattle.tags.specs.declared.rule.Verdict.TheVariants.{New, Repeat, Discovery}
 use Rattle.tags.specs.Record.{place_of, mark_of, words_at, record_by}
+use Rattle.tags.specs.Rule.{Ruling}
 use Rattle.completer.specs.Controller.{Controller, lent, with_memory, answer_in, After, left}
 use Rattle.completer.specs.Verdict.{verdict_of}
 
@@ -49,11 +49,11 @@ accepts c output dg =
 -- refused: "its number and length 0; memory, stored answer, record and output are unchanged". A repeat: "the stored
 -- answer is sent, nothing else happens", the one of its tag. New: "carry out, store tag and answer". Discovery: "the
 -- message is carried out, and tag and stored answer stay".
-abbrev pub after_by : Verdict → Controller → List ℕ → List ℕ → After
-after_by (Refused r) c output dg = left r 0 c output
-after_by (Repeat tag) c output dg = sends (words_at c.tags tag) (answer_in c.stored c.tags tag) c output
-after_by Discovery c output dg = discovers c output dg
-after_by New c output dg = accepts c output dg
+abbrev pub after_by : Ruling → Controller → List ℕ → List ℕ → After
+after_by (Err r) c output dg = left r 0 c output
+after_by (Ok (Repeat tag)) c output dg = sends (words_at c.tags tag) (answer_in c.stored c.tags tag) c output
+after_by (Ok Discovery) c output dg = discovers c output dg
+after_by (Ok New) c output dg = accepts c output dg
 
 unfoldable pub after : Controller → List ℕ → List ℕ → After
 after c output dg = after_by (verdict_of c output dg) c output dg

@@ -1,59 +1,42 @@
--- What the calls inside `serve` go by: `follows`, the record after `dispatch`, and what nobody else needs to read.
--- Assumes nothing.
-use Rattle.std.specs.Prelude.{ℕ, ◌*◌, ◌≡◌, Bool, true, false, List}
-use Rattle.word.specs.Words.{put}
+-- What the calls inside `serve` go by: what a call gives, the record that follows `dispatch`, and what nobody else needs
+-- to read. Assumes nothing.
+use Rattle.std.specs.Prelude.{ℕ, ◌*◌, ◌≡◌, Bool, true, false, List, Result, Ok, Err, Option, Some, None}
+use Rattle.word.specs.Words.{put, put_words}
 use Rattle.header.specs.declared.refusal.Refusal.{Refusal}
-use Rattle.header.specs.Limits.{limit, limit_bytes}
+use Rattle.header.specs.Limits.{limit_bytes}
 use Rattle.header.specs.Refusal.{refusal}
 use Rattle.tags.specs.declared.record.TagRecord.{TagRecord}
-use Rattle.tags.specs.Record.{place_of, words_at, record_by}
-use Rattle.tags.specs.declared.rule.Verdict.{Verdict}
-use Rattle.tags.specs.declared.rule.Verdict.TheVariants.{Refused, New, Repeat, Discovery}
+use Rattle.tags.specs.Record.{words_at, record_by}
+use Rattle.tags.specs.Rule.{Ruling}
 use Rattle.completer.specs.declared.serving.Done.{Done}
-use Rattle.completer.specs.Controller.{lent, left}
-use Rattle.completer.specs.Serving.{after_by}
+use Rattle.completer.specs.declared.serving.Kept.{Kept}
+use Rattle.completer.specs.Controller.{Controller, answer_in, After, left}
 
--- whether a message is carried out, and whether it is kept and its answer stored
-abbrev pub carries_of : Verdict → Bool
-carries_of (Refused n) = false
-carries_of New = true
-carries_of (Repeat tag) = false
-carries_of Discovery = true
+-- what a call leaves that gave this: a refusal, which sends nothing, or the bytes sent
+abbrev pub gave : Result ℕ Refusal → Controller → List ℕ → After
+gave (Ok n) c output = left (refusal 0) n c output
+gave (Err r) c output = left r 0 c output
 
-abbrev pub keeps_of : Verdict → Bool
-keeps_of (Refused n) = false
-keeps_of New = true
-keeps_of (Repeat tag) = false
-keeps_of Discovery = false
+-- the bytes that are sent, of what `dispatch` gives
+abbrev pub sent_by : Result Done Refusal → Result ℕ Refusal
+sent_by (Ok d) = Ok d.sent
+sent_by (Err r) = Err r
 
--- the refusal that a verdict gives, and the words of the stored answer that it has sent again
-abbrev pub refusal_of : Verdict → Refusal
-refusal_of (Refused n) = n
-refusal_of New = refusal 0
-refusal_of (Repeat tag) = refusal 0
-refusal_of Discovery = refusal 0
+-- the record after a message that is kept, or none
+abbrev pub record_with : TagRecord → Option Kept → TagRecord
+record_with tags None = tags
+record_with tags (Some k) = record_by true tags k.byte0 k.words k.request
 
-abbrev pub again_of : Verdict → TagRecord → ℕ
-again_of (Refused n) tags = 0
-again_of New tags = 0
-again_of (Repeat tag) tags = words_at tags tag
-again_of Discovery tags = 0
+-- the record that follows from what `dispatch` gives
+abbrev pub follows : TagRecord → Result Done Refusal → TagRecord
+follows tags (Ok d) = record_with tags d.kept
+follows tags (Err r) = tags
 
--- and where they stand
-abbrev pub again_at : Verdict → ℕ
-again_at (Refused n) = 0
-again_at New = 0
-again_at (Repeat tag) = limit * place_of tag
-again_at Discovery = 0
-
--- the record that follows from what a call gave
-abbrev pub follows : TagRecord → Done → TagRecord
-follows tags r = record_by r.keep tags r.byte0 r.words r.request
-
--- a message that is not carried out leaves memory and the kept request, whatever they hold
-abbrev pub Settles : Verdict → List ℕ → List ℕ → TagRecord → Done → List ℕ → Type 0
-Settles v s o tags r o' = (m kept dg : List ℕ)
-    → left r.refusal r.sent (lent m s kept (follows tags r)) o' ≡ after_by v (lent m s kept tags) o dg
+-- a stored answer sent again: no message is kept
+pub record SendsAgain (s o : List ℕ) (tags : TagRecord) (tag : ℕ) (d : Done) (o' : List ℕ) : Type 0 where
+  pub sent : d.sent ≡ 4 * words_at tags tag
+  pub kept : d.kept ≡ None
+  pub output : o' ≡ put_words o 0 (answer_in s tags tag)
 
 -- the bytes of a message, where it is kept, at a place
 abbrev pub kept_by : Bool → List ℕ → ℕ → List ℕ → List ℕ

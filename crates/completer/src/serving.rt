@@ -1,13 +1,12 @@
 // The controller's call: what follows from the verdict on a datagram.
-ghost use Rattle.std.specs.Prelude.{◌≡◌, true, false, cond, ◌+◌, ◌*◌, ◌%◌, ◌<◌, ◌≤◌, length};
+ghost use Rattle.std.specs.Prelude.{◌≡◌, ◌≢◌, true, cond, ◌+◌, ◌*◌, ◌%◌, ◌<◌, ◌≤◌, length, Ok, IfErr};
 ghost use Rattle.header.specs.Limits.{limit, limit_bytes};
 ghost use Rattle.message.specs.Request.{Means};
 ghost use Rattle.message.specs.Walk.{read, request_of};
-ghost use Rattle.tags.specs.Record.{places, record_ok};
+ghost use Rattle.tags.specs.Record.{places, place_of, words_at, record_ok};
 ghost use Rattle.completer.specs.Controller.{lent, left};
 ghost use Rattle.completer.specs.Serving.{after_by, after};
-ghost use Rattle.completer.specs.Settling.{carries_of, keeps_of, refusal_of, again_of, again_at};
-ghost use Rattle.completer.specs.Settling.{follows, Settles, kept_by};
+ghost use Rattle.completer.specs.Settling.{gave, sent_by, record_with, follows, SendsAgain, kept_by};
 ghost use Rattle.tags.specs.declared.rule.Verdict.TheVariants.{New, Discovery};
 
 use crate::verdict;
@@ -18,108 +17,36 @@ use tags::record::TagRecord;
 use tags::rule::Verdict;
 use word::run;
 
-// What a call gives: the refusal (number 0: none), the bytes sent, which stand at the front of the output, and the
-// record.
-#[repr(C)]
-#[derive(Clone, Copy)]
-pub struct Served {
-    pub refusal: Refusal,
-    pub sent: usize,
-    pub tags: TagRecord,
-}
-
-// The same before the record follows: whether the message is kept, and then its byte 0, the words of its answer and its
-// own.
-#[repr(C)]
+// What a message that is not refused came to: the bytes sent, which stand at the front of the output, and the message,
+// if it is kept.
 #[derive(Clone, Copy)]
 pub struct Done {
-    pub refusal: Refusal,
     pub sent: usize,
-    pub keep: bool,
+    pub kept: Option<Kept>,
+}
+
+// A message that is kept: its byte 0, the words of its answer and its own.
+#[derive(Clone, Copy)]
+pub struct Kept {
     pub byte0: u32,
     pub words: u32,
     pub request: u32,
 }
 
-// Whether a verdict has the message carried out.
-fn carries(verdict: Verdict) -> bool
-    ensures { result ≡ carries_of verdict }
+// The stored answer of a tag sent again.
+fn again(stored: &[u32], output: &mut [u8], tags: TagRecord, tag: u32) -> Done
+    requires { (words_at tags tag ≤ limit)
+        × (limit * place_of tag + words_at tags tag ≤ length stored.now)
+        × (4 * words_at tags tag ≤ length output.old) }
+    ensures { SendsAgain stored.now output.old tags tag result output.new }
 {
-    match verdict {
-        Verdict::Refused(_) => false,
-        Verdict::New => true,
-        Verdict::Repeat(_) => false,
-        Verdict::Discovery => true,
-    }
-}
-
-// Whether the message is kept, and its answer stored.
-fn keeps(verdict: Verdict) -> bool
-    ensures { result ≡ keeps_of verdict }
-{
-    match verdict {
-        Verdict::Refused(_) => false,
-        Verdict::New => true,
-        Verdict::Repeat(_) => false,
-        Verdict::Discovery => false,
-    }
-}
-
-// The refusal that a verdict gives; number 0: none.
-fn refusal_of(verdict: Verdict) -> Refusal
-    ensures { result ≡ refusal_of verdict }
-{
-    match verdict {
-        Verdict::Refused(refusal) => refusal,
-        Verdict::New => Refusal::of(Refusal::NONE),
-        Verdict::Repeat(_) => Refusal::of(Refusal::NONE),
-        Verdict::Discovery => Refusal::of(Refusal::NONE),
-    }
-}
-
-// The words of the stored answer that a verdict has sent again.
-fn again(verdict: Verdict, tags: TagRecord) -> usize
-    ensures { result ≡ again_of verdict tags }
-{
-    match verdict {
-        Verdict::Refused(_) => 0,
-        Verdict::New => 0,
-        Verdict::Repeat(tag) => record::words_at(tags, tag),
-        Verdict::Discovery => 0,
-    }
-}
-
-// Where they stand.
-fn again_at(verdict: Verdict) -> usize
-    ensures { result ≡ again_at verdict }
-{
-    match verdict {
-        Verdict::Refused(_) => 0,
-        Verdict::New => 0,
-        Verdict::Repeat(tag) => TagRecord::WORDS * record::place(tag),
-        Verdict::Discovery => 0,
-    }
-}
-
-// A message that is not carried out: a refusal, or a stored answer sent again.
-fn settle(stored: &[u32], output: &mut [u8], tags: TagRecord, verdict: Verdict) -> Done
-    requires { (carries_of verdict ≡ false)
-        × (again_of verdict tags ≤ limit)
-        × (again_at verdict + again_of verdict tags ≤ length stored.now)
-        × (4 * again_of verdict tags ≤ length output.old) }
-    ensures { Settles verdict stored.now output.old tags result output.new }
-{
-    let n = again(verdict, tags);
-    let at = again_at(verdict);
+    let n = record::words_at(tags, tag);
+    let at = TagRecord::WORDS * record::place(tag);
     let end = at + n;
-    word::run::put_words(output, 0, &stored[at..end]);
+    run::put_words(output, 0, &stored[at..end]);
     Done {
-        refusal: refusal_of(verdict),
         sent: 4 * n,
-        keep: false,
-        byte0: 0,
-        words: 0,
-        request: 0,
+        kept: None,
     }
 }
 
@@ -152,9 +79,8 @@ fn act(
         × (places * limit ≤ length stored.old)
         × (limit_bytes ≤ length output.old)
         × (places * limit_bytes ≤ length kept.old) }
-    ensures { left result.refusal result.sent
-        (lent memory.new stored.new kept.new (follows tags result)) output.new
-        ≡ after_by (cond keep New Discovery)
+    ensures { gave (Ok result.sent) (lent memory.new stored.new kept.new (record_with tags result.kept)) output.new
+        ≡ after_by (Ok (cond keep New Discovery))
         (lent memory.old stored.old kept.old tags) output.old
         datagram.now }
 {
@@ -173,18 +99,19 @@ fn act(
         mark,
         keep,
     );
-    Done {
-        refusal: Refusal::of(Refusal::NONE),
-        sent: 4 * n,
-        keep,
+    let message = Kept {
         byte0,
         words: n as u32,
         request: (datagram.len() / 4) as u32,
+    };
+    Done {
+        sent: 4 * n,
+        kept: keep.then_some(message),
     }
 }
 
 // The controller's call but for the record, for any buffers, any record and any bytes. The record that `follow` makes
-// of what it gives is the record after it.
+// of what it gives is the record after it; a refusal leaves the record.
 pub fn dispatch(
     memory: &mut [u32],
     stored: &mut [u32],
@@ -192,12 +119,12 @@ pub fn dispatch(
     output: &mut [u8],
     tags: TagRecord,
     datagram: &[u8],
-) -> Done
-    ensures { left result.refusal result.sent
-        (lent memory.new stored.new kept.new (follows tags result)) output.new
+) -> Result<Done, Refusal>
+    ensures leaves { gave (sent_by result) (lent memory.new stored.new kept.new (follows tags result)) output.new
         ≡ after
         (lent memory.old stored.old kept.old tags) output.old
         datagram.now }
+    ensures refused { IfErr result (λ r. r.number ≢ 0) }
 {
     let verdict = verdict::verdict_of(
         memory.len(),
@@ -206,40 +133,42 @@ pub fn dispatch(
         output.len(),
         tags,
         datagram,
-    );
-    if carries(verdict) {
-        return act(memory, stored, kept, output, tags, datagram, keeps(verdict));
-    }
-    settle(stored, output, tags, verdict)
+    )?;
+    Ok(match verdict {
+        Verdict::Repeat(tag) => again(stored, output, tags, tag),
+        // One call for both, so that what it does stands once in the library.
+        _ => act(memory, stored, kept, output, tags, datagram, matches!(verdict, Verdict::New)),
+    })
 }
 
-// The record after a call.
+// The record after a call that is not refused.
 pub fn follow(tags: TagRecord, done: Done) -> TagRecord
-    ensures { result ≡ follows tags done }
+    ensures { result ≡ record_with tags done.kept }
 {
-    record::record_after(tags, done.byte0, done.words, done.request, done.keep)
+    match done.kept {
+        Some(message) => record::record_after(tags, message.byte0, message.words, message.request),
+        None => tags,
+    }
 }
 
-// The controller's call, for any buffers, any record and any bytes.
+// The controller's call, for any buffers, any record and any bytes: the bytes sent, which stand at the front of the
+// output. The record is looked at where it lies and follows at the end, so that its ten numbers are not carried through
+// the call.
 pub fn serve(
     memory: &mut [u32],
     stored: &mut [u32],
     kept: &mut [u8],
     output: &mut [u8],
-    tags: TagRecord,
+    tags: &mut TagRecord,
     datagram: &[u8],
-) -> Served
-    ensures { left result.refusal result.sent
-        (lent memory.new stored.new kept.new result.tags) output.new
+) -> Result<usize, Refusal>
+    ensures leaves { gave result (lent memory.new stored.new kept.new tags.new) output.new
         ≡ after
-        (lent memory.old stored.old kept.old tags) output.old
+        (lent memory.old stored.old kept.old tags.old) output.old
         datagram.now }
+    ensures refused { IfErr result (λ r. r.number ≢ 0) }
 {
-    let done = dispatch(memory, stored, kept, output, tags, datagram);
-    let refusal = done.refusal;
-    Served {
-        refusal,
-        sent: done.sent,
-        tags: follow(tags, done),
-    }
+    let done = dispatch(memory, stored, kept, output, *tags, datagram)?;
+    *tags = follow(*tags, done);
+    Ok(done.sent)
 }

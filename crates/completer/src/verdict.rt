@@ -2,7 +2,6 @@
 ghost use Rattle.std.specs.Prelude.{◌≡◌, true, ◌*◌, ◌≤◌, length};
 ghost use Rattle.header.specs.Limits.{limit, limit_bytes};
 ghost use Rattle.message.specs.Walk.{read};
-ghost use Rattle.tags.specs.declared.rule.Verdict.TheVariants.{Repeat};
 ghost use Rattle.tags.specs.Record.{places, request_at, record_ok};
 ghost use Rattle.completer.specs.Controller.{request_in};
 ghost use Rattle.completer.specs.Verdict.{lent_ok, judged, as_kept, held_to, verdict_by};
@@ -42,41 +41,26 @@ fn same_request(kept: &[u8], tags: TagRecord, tag: u32, datagram: &[u8]) -> bool
 }
 
 // The verdict on any datagram where what is lent is right, before its bytes are compared: 2 to 10, then by the tag.
-fn judge(tags: TagRecord, datagram: &[u8]) -> Verdict
+fn judge(tags: TagRecord, datagram: &[u8]) -> Result<Verdict, Refusal>
     requires { record_ok tags ≡ true }
     ensures { result ≡ judged tags (read datagram.now) }
 {
-    match walk::walk(datagram) {
-        Ok(byte0) => rule::rule(tags, byte0),
-        Err(refusal) => Verdict::Refused(refusal),
-    }
+    let byte0 = walk::walk(datagram)?;
+    rule::rule(tags, byte0)
 }
 
-// The verdict on a repeat of a tag that is held: it has to be the kept request of that tag.
-fn hold_repeat(kept: &[u8], tags: TagRecord, tag: u32, datagram: &[u8]) -> Verdict
-    requires tag_bound { request_at tags tag ≤ limit }
-    requires limit_bytes_in_bounds { places * limit_bytes ≤ length kept.now }
-    ensures { result ≡ held_to kept.now tags datagram.now (Repeat tag) }
-{
-    if same_request(kept, tags, tag, datagram) {
-        return Verdict::Repeat(tag);
-    }
-    Verdict::Refused(Refusal::of(Refusal::OTHER_BYTES))
-}
-
-// The verdict where what is lent is right: a repeat is held to what is kept.
-fn hold(kept: &[u8], tags: TagRecord, datagram: &[u8]) -> Verdict
+// The verdict where what is lent is right: a repeat has to be the kept request of its tag.
+fn hold(kept: &[u8], tags: TagRecord, datagram: &[u8]) -> Result<Verdict, Refusal>
     requires tags_value { record_ok tags ≡ true }
     requires limit_bytes_in_bounds { places * limit_bytes ≤ length kept.now }
     ensures { result ≡ held_to kept.now tags datagram.now
         (judged tags (read datagram.now)) }
 {
-    let verdict = judge(tags, datagram);
-    match verdict {
-        Verdict::Refused(refusal) => Verdict::Refused(refusal),
-        Verdict::New => Verdict::New,
-        Verdict::Repeat(tag) => hold_repeat(kept, tags, tag, datagram),
-        Verdict::Discovery => Verdict::Discovery,
+    match judge(tags, datagram)? {
+        Verdict::Repeat(tag) if !same_request(kept, tags, tag, datagram) => {
+            Err(Refusal::of(Refusal::OTHER_BYTES))
+        },
+        verdict => Ok(verdict),
     }
 }
 
@@ -88,14 +72,11 @@ pub fn verdict_of(
     output: usize,
     tags: TagRecord,
     datagram: &[u8],
-) -> Verdict
+) -> Result<Verdict, Refusal>
     ensures { result ≡ verdict_by memory stored kept.now output tags datagram.now }
 {
-    if !lent_ok(memory, output) {
-        return Verdict::Refused(Refusal::of(Refusal::LENT));
-    }
-    if !record::kept_ok(stored, kept.len(), tags) {
-        return Verdict::Refused(Refusal::of(Refusal::LENT));
+    if !lent_ok(memory, output) || !record::kept_ok(stored, kept.len(), tags) {
+        return Err(Refusal::of(Refusal::LENT));
     }
     hold(kept, tags, datagram)
 }

@@ -20,8 +20,7 @@ pub struct Sent {
     pub sent: usize,
 }
 
-// One datagram served, for any buffers, any record and any bytes; the record then holds what the call by value gives.
-// It is looked at where it lies and follows at the end, so that its ten numbers are not carried through the call. The
+// One datagram served, for any buffers, any record and any bytes; the record then holds what the call makes of it. The
 // kept requests stand before the stored answers: the compiler's registers are best in that order.
 pub fn charkhavo_serve(
     memory: &mut [u32],
@@ -37,10 +36,11 @@ pub fn charkhavo_serve(
         (lent memory.old stored.old kept.old tags.old) output.old
         datagram.now }
 {
-    let done = serving::dispatch(memory, stored, kept, output, *tags, datagram);
-    *tags = serving::follow(*tags, done);
-    Sent {
-        refusal: done.refusal,
-        sent: done.sent,
+    match serving::serve(memory, stored, kept, output, tags, datagram) {
+        Ok(sent) => Sent {
+            refusal: Refusal::of(Refusal::NONE),
+            sent,
+        },
+        Err(refusal) => Sent { refusal, sent: 0 },
     }
 }

@@ -8,9 +8,9 @@ pub controlling : Controlling
 controlling =
     record {
       verdict-of = λ M 𝓤 𝓛 mem run κs a g one other. one_of 𝓤;
-      dispatch = λ M 𝓤 𝓛 mem run κs a g one other. one_of 𝓤;
+      dispatch = λ M 𝓤 𝓛 mem run κs a g one other. first_of 𝓤;
       follow = λ M 𝓤 𝓛 mem run κs a g one other. one_of 𝓤;
-      serve = λ M 𝓤 𝓛 mem run κs a g one other. one_of 𝓤;
+      serve = λ M 𝓤 𝓛 mem run κs a g one other. first_of 𝓤;
       in_place = λ M 𝓤 𝓛 mem run κs a g one other. one_of 𝓤;
     }
 

@@ -12,7 +12,7 @@ use types.Logic.{Logic}
 use denote.Triple.Entry.{Args, Res}
 use denote.Triple.Clauses.{Ended, AtExit, Clauses}
 use Rattle.completer.specs.Controller.{lent, left}
-use Rattle.completer.specs.Settling.{follows}
+use Rattle.completer.specs.Settling.{gave, sent_by, follows}
 use Rattle.completer.specs.contracts.verdict.verdict_of as VerdictOf
 use Rattle.completer.specs.contracts.serving.dispatch as Dispatch
 use Rattle.completer.specs.contracts.serving.follow as Follow
@@ -95,13 +95,13 @@ pub record Controlling : Type 2 where
   pub verdict-of : Determined VerdictOf.ended (λ M 𝓤. VerdictOf.clauses) (λ κs r e. r)
   pub dispatch :
       DeterminedWith Dispatch.ended (λ M 𝓤. Dispatch.clauses)
-      (λ κs a r e. left r.refusal r.sent
+      (λ κs a r e. gave (sent_by r)
       (lent e.0.now e.1.0.now e.1.1.0.now (follows a.1.1.1.1.0 r)) e.1.1.1.0.now)
   pub follow : Determined Follow.ended (λ M 𝓤. Follow.clauses) (λ κs r e. r)
   pub serve :
       Determined Serve.ended (λ M 𝓤. Serve.clauses)
       (λ κs r e.
-      left r.refusal r.sent (lent e.0.now e.1.0.now e.1.1.0.now r.tags)
+      gave r (lent e.0.now e.1.0.now e.1.1.0.now e.1.1.1.1.0.now)
       e.1.1.1.0.now)
   pub in_place :
       Determined ServeInPlace.ended (λ M 𝓤. ServeInPlace.clauses)

@@ -26,7 +26,8 @@ use Rattle.message.proofs.Laws.Back as message
 use Rattle.memory.specs.Moves.{memory_after}
 use Rattle.memory.proofs.Laws.Promises.{same_length, stays-words, quiet}
 use Rattle.carrying.proofs.Laws.Promises.{answer-to}
-use Rattle.tags.specs.declared.rule.Verdict.TheVariants.{Refused as RefusedBy, New, Repeat, Discovery}
+use Rattle.std.specs.Prelude.{Ok, Err}
+use Rattle.tags.specs.declared.rule.Verdict.TheVariants.{New, Repeat, Discovery}
 use Rattle.tags.specs.Record.{places, place_of, is_fresh, back, holds, mark_of, one_more}
 use Rattle.tags.specs.Rule.{expected, rule_of}
 use Rattle.tags.proofs.Laws.Record.{held-room, rule-finds, back-held}
@@ -80,11 +81,11 @@ module _ (c : Controller) (b d : List ℕ) (h : Sound c) (l : Lendable b) (p : P
   abbrev reply : List ℕ
   reply = words c h (request_of d) (asked-fits p)
 
-  verdict-new : verdict_of c b d ≡ New
+  verdict-new : verdict_of c b d ≡ Ok New
   verdict-new = verdict-is c b d (allowed-is c b h l) ∙ ap (held_to c.kept c.tags d) (is-new c h p v).1
 
-  does : after c b d ≡ after_by New c b d
-  does = serving-is c b h l d New (is-new c h p v).1
+  does : after c b d ≡ after_by (Ok New) c b d
+  does = serving-is c b h l d (Ok New) (is-new c h p v).1
 
   first-tag : tag_of (request_of d).byte0 ≡ tag_of (get_or d 0 0)
   first-tag = ap (λ (r : Request). tag_of r.byte0) (asked_is p) ∙ ap tag_of (sym (first-is p))
@@ -103,7 +104,7 @@ module _ (c : Controller) (b d : List ℕ) (h : Sound c) (l : Lendable b) (p : P
   right : Right (length d)
   right = (read_first d p.request p.is).0
 
-  pub sound-new : Sound (after_by New c b d).controller
+  pub sound-new : Sound (after_by (Ok New) c b d).controller
   sound-new =
       let n = same_length (request_of d) c.memory in
       let k = short c h (request_of d) (asked-fits p) in
@@ -185,9 +186,9 @@ module _ (c : Controller) (b : List ℕ) (h : Sound c) (l : Lendable b) where
       let t = ap (λ (u : ℕ × List ℕ). u.0) r.1 in
       let held : holds c.tags (tag_of (get_or d 0 0)) ≡ true = rw (← t) (stored-held c h j r.0) in
       let same : request_in c.kept c.tags (tag_of (get_or d 0 0)) ≡ d = rw (← t) k in
-      let y : held_to c.kept c.tags d (judged c.tags (read d)) ≡ Repeat (tag_of (get_or d 0 0)) = rw (is-again c h p held, same, kept_self d) in
+      let y : held_to c.kept c.tags d (judged c.tags (read d)) ≡ Ok (Repeat (tag_of (get_or d 0 0))) = rw (is-again c h p held, same, kept_self d) in
       let s = repeat-sends c b d (tag_of (get_or d 0 0)) (verdict-is c b d (allowed-is c b h l) ∙ y) in
-      let g = called-by c b d (allowed-is c b h l) (Repeat (tag_of (get_or d 0 0))) y in
+      let g = called-by c b d (allowed-is c b h l) (Ok (Repeat (tag_of (get_or d 0 0)))) y in
       let is : bytes_of (answer_in c.stored c.tags (tag_of (get_or d 0 0))) ≡ a = rw (← t) (ap (λ (u : ℕ × List ℕ). u.1) r.1) in (
         subst (λ (z : After). take z.sent z.output ≡ bytes_of (answer_in c.stored c.tags (tag_of (get_or d 0 0))) → sent_in z ≡ some a) (sym g)
             (λ q. ap some (q ∙ is)) s.sent,
@@ -197,7 +198,7 @@ module _ (c : Controller) (b : List ℕ) (h : Sound c) (l : Lendable b) where
   pub does-late : {d : List ℕ} → Plain d → (tag_of (get_or d 0 0) ≡ next_tag (tags_in (stored_by c)) → ⊥) → Unlike (tags_in (stored_by c)) (tag_of (get_or d 0 0))
       → ((ends.serve c b d).1 ≡ none) × Kept ends terms sight c (ends.serve c b d).0
   does-late {d} p n u =
-      let e = serving-is c b h l d (RefusedBy (refusal 11)) (is-late c h p n u) in
+      let e = serving-is c b h l d (Err (refusal 11)) (is-late c h p n u) in
       (ap sent_in e, subst (λ (a : After). Kept ends terms sight c a.controller) (sym e) (kept_same c h))
 
   -- a quiet datagram: refused, or a discovery that is no write
@@ -206,7 +207,7 @@ module _ (c : Controller) (b : List ℕ) (h : Sound c) (l : Lendable b) where
 
   refused : (x : List ℕ) (n : Refusal) → Finds x → read x ≡ Refused n → Quietly x (after c b x)
   refused x n f e =
-      subst (Quietly x) (sym (serving-is c b h l x (RefusedBy n) (ap (judged c.tags) e)))
+      subst (Quietly x) (sym (serving-is c b h l x (Err n) (ap (judged c.tags) e)))
       (kept_same c h, λ y q. let z : eqb n.number 0 ≡ false = ne_eqb n.number 0 (λ i. absurd (omega (arith, (refusal-range x f.bytes n e).0))) in nothing (rw z at q))
     where
       nothing : {y : List ℕ} → none ≡ some y → Strange y
@@ -214,7 +215,7 @@ module _ (c : Controller) (b : List ℕ) (h : Sound c) (l : Lendable b) where
 
   found : (x : List ℕ) (r : Request) → Finds x → read x ≡ Means r → (discovery_of r.byte0 ≡ true) × (kind_of r.byte0 ≡ Write → ⊥) → Quietly x (after c b x)
   found x r f e q =
-      subst (Quietly x) (sym (serving-is c b h l x Discovery (ap (judged c.tags) e ∙ finds))) (
+      subst (Quietly x) (sym (serving-is c b h l x (Ok Discovery) (ap (judged c.tags) e ∙ finds))) (
         record {
           sound = subst (λ (m : List ℕ). Sound (with_memory c m)) (sym same) h;
           memory = same;
@@ -237,7 +238,7 @@ module _ (c : Controller) (b : List ℕ) (h : Sound c) (l : Lendable b) where
       fits : Fits (request_of x)
       fits = rw is (written_read x r f.bytes e).0
 
-      finds : rule_of c.tags r.byte0 ≡ Discovery
+      finds : rule_of c.tags r.byte0 ≡ Ok Discovery
       finds = rule-finds c.tags r.byte0 q.0
 
       same : memory_after (request_of x) c.memory ≡ c.memory

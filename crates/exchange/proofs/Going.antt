@@ -24,9 +24,9 @@ use Rattle.answer.proofs.Laws.Giving.{encoded-is}
 use Rattle.memory.specs.Moves.{fails, moves_of, after_moves}
 use Rattle.carrying.specs.Answers.{ok_words, done, failed, answers, answer_to}
 use Rattle.carrying.proofs.Laws.Promises.{answers-none, answers-more, words-to, answer-fits}
-use Rattle.tags.specs.declared.rule.Verdict.{Verdict}
-use Rattle.tags.specs.declared.rule.Verdict.TheVariants.{Refused, New, Repeat}
-use Rattle.tags.specs.Rule.{expected}
+use Rattle.std.specs.Prelude.{Ok, Err}
+use Rattle.tags.specs.declared.rule.Verdict.TheVariants.{New, Repeat}
+use Rattle.tags.specs.Rule.{Ruling, expected}
 use Rattle.tags.specs.Record.{is_fresh, back, holds, mark_of}
 use Rattle.tags.proofs.Laws.Record.{held-room, held_back, back-held, rule-plain, expected-fresh, expected-by, mark-small, kept-ok}
 use Rattle.completer.specs.Verdict.{judged, held_to}
@@ -69,7 +69,7 @@ module _ (c : Controller) (b : List ℕ) (h : Sound c) (l : Lendable b) where
   allowed-is = rw (lent_fits (length c.memory) (length b) h.some h.most l, kept-ok (length c.stored) (length c.kept) c.tags h.stored h.kept h.tags)
 
   -- so the call goes by the verdict on the datagram
-  pub serving-is : (x : List ℕ) (v : Verdict) → judged c.tags (read x) ≡ v → after c b x ≡ after_by (held_to c.kept c.tags x v) c b x
+  pub serving-is : (x : List ℕ) (v : Ruling) → judged c.tags (read x) ≡ v → after c b x ≡ after_by (held_to c.kept c.tags x v) c b x
   serving-is x v e = called-by c b x allowed-is (held_to c.kept c.tags x v) (ap (held_to c.kept c.tags x) e)
 
 -- the tags of what f gives
@@ -155,16 +155,16 @@ module _ (c : Controller) (h : Sound c) where
     abbrev t : ℕ
     t = tag_of (get_or d 0 0)
 
-    by-tag : (a b : Bool) → holds c.tags t ≡ a → expected c.tags t ≡ b → judged c.tags (read d) ≡ cond a (Repeat t) (cond b New (Refused (refusal 11)))
+    by-tag : (a b : Bool) → holds c.tags t ≡ a → expected c.tags t ≡ b → judged c.tags (read d) ≡ cond a (Ok (Repeat t)) (cond b (Ok New) (Err (refusal 11)))
     by-tag a b e f =
         ap (judged c.tags) p.is ∙ rule-plain c.tags p.request.byte0 p.clear
-        ∙ ap (λ (n : ℕ). cond (holds c.tags (tag_of n)) (Repeat (tag_of n)) (cond (expected c.tags (tag_of n)) New (Refused (refusal 11)))) (sym (first-is p))
+        ∙ ap (λ (n : ℕ). cond (holds c.tags (tag_of n)) (Ok (Repeat (tag_of n))) (cond (expected c.tags (tag_of n)) (Ok New) (Err (refusal 11)))) (sym (first-is p))
         ∙ rw (e, f)
 
-    pub is-again : holds c.tags t ≡ true → judged c.tags (read d) ≡ Repeat t
+    pub is-again : holds c.tags t ≡ true → judged c.tags (read d) ≡ Ok (Repeat t)
     is-again e = by-tag true (expected c.tags t) e refl
 
-    pub is-new : t ≡ next_tag (tags_in (stored_by c)) → (expected c.tags t ≡ true) × (judged c.tags (read d) ≡ New)
+    pub is-new : t ≡ next_tag (tags_in (stored_by c)) → (expected c.tags t ≡ true) × (judged c.tags (read d) ≡ Ok New)
     is-new e = let x = expected-is t ∙ eq-eqb t _ e in (x, by-tag false true (go (holds c.tags t) refl) x)
       where
         go : (b : Bool) → holds c.tags t ≡ b → holds c.tags t ≡ false
@@ -175,7 +175,7 @@ module _ (c : Controller) (h : Sound c) where
             let n = next-held f.0 in
             absurd (omega (arith, f.1, f.2))
 
-    pub is-late : (t ≡ next_tag (tags_in (stored_by c)) → ⊥) → Unlike (tags_in (stored_by c)) t → judged c.tags (read d) ≡ Refused (refusal 11)
+    pub is-late : (t ≡ next_tag (tags_in (stored_by c)) → ⊥) → Unlike (tags_in (stored_by c)) t → judged c.tags (read d) ≡ Err (refusal 11)
     is-late n u = by-tag false false (go (holds c.tags t) refl) (expected-is t ∙ ne_eqb t _ n)
       where
         go : (b : Bool) → holds c.tags t ≡ b → holds c.tags t ≡ false

@@ -13,10 +13,10 @@ use Rattle.header.specs.Refusal.{refusal}
 use Rattle.message.specs.Request.{Means}
 use Rattle.message.specs.Walk.{read}
 use Rattle.message.proofs.Laws.Going.{read_first}
-use Rattle.tags.specs.declared.rule.Verdict.{Verdict}
-use Rattle.tags.specs.declared.rule.Verdict.TheVariants.{Refused, New, Repeat}
+use Rattle.std.specs.Prelude.{Ok, Err}
+use Rattle.tags.specs.declared.rule.Verdict.TheVariants.{New, Repeat}
 use Rattle.tags.specs.Record.{back as back_from, holds}
-use Rattle.tags.specs.Rule.{expected}
+use Rattle.tags.specs.Rule.{Ruling, expected}
 use Rattle.tags.proofs.Laws.Record.{rule-plain}
 use Rattle.completer.specs.Controller.{Controller, request_in, After}
 use Rattle.completer.specs.Verdict.{as_kept, held_to, judged}
@@ -103,20 +103,20 @@ answer-is-own c o x r a e z n = go (holds c.tags t) (expected c.tags t) refl ref
     t = tag_of r.byte0
 
     -- held to the kept request, the verdict is this one
-    by : (v : Verdict) → judged c.tags (read x) ≡ v → after c o x ≡ after_by (held_to c.kept c.tags x v) c o x
+    by : (v : Ruling) → judged c.tags (read x) ≡ v → after c o x ≡ after_by (held_to c.kept c.tags x v) c o x
     by v q = called-by c o x a _ (ap (held_to c.kept c.tags x) q)
 
-    ruled : (p q : Bool) → holds c.tags t ≡ p → expected c.tags t ≡ q → judged c.tags (read x) ≡ cond p (Repeat t) (cond q New (Refused (refusal 11)))
+    ruled : (p q : Bool) → holds c.tags t ≡ p → expected c.tags t ≡ q → judged c.tags (read x) ≡ cond p (Ok (Repeat t)) (cond q (Ok New) (Err (refusal 11)))
     ruled p q f g = ap (judged c.tags) e ∙ rule-plain c.tags r.byte0 z ∙ rw (f, g)
 
     Again : Type 0
-    Again = (request_in c.kept c.tags t ≡ x) × (after c o x ≡ after_by (Repeat t) c o x)
+    Again = (request_in c.kept c.tags t ≡ x) × (after c o x ≡ after_by (Ok (Repeat t)) c o x)
 
-    kept : (k : Bool) → as_kept (request_in c.kept c.tags t) x ≡ k → after c o x ≡ after_by (cond k (Repeat t) (Refused (refusal 12))) c o x → Again
+    kept : (k : Bool) → as_kept (request_in c.kept c.tags t) x ≡ k → after c o x ≡ after_by (cond k (Ok (Repeat t)) (Err (refusal 12))) c o x → Again
     kept true q m = (kept-equal _ _ q, m)
     kept false q m = absurd (let i = sym (ap (λ (u : After). u.refusal.number) m) ∙ n in omega arith)
 
     go : (p q : Bool) → holds c.tags t ≡ p → expected c.tags t ≡ q → (after c o x ≡ accepts c o x) ⊎ Again
-    go true q f g = inr (kept (as_kept (request_in c.kept c.tags t) x) refl (by (Repeat t) (ruled true q f g)))
-    go false true f g = inl (by New (ruled false true f g))
-    go false false f g = absurd (let m = sym (ap (λ (u : After). u.refusal.number) (by (Refused (refusal 11)) (ruled false false f g))) ∙ n in omega arith)
+    go true q f g = inr (kept (as_kept (request_in c.kept c.tags t) x) refl (by (Ok (Repeat t)) (ruled true q f g)))
+    go false true f g = inl (by (Ok New) (ruled false true f g))
+    go false false f g = absurd (let m = sym (ap (λ (u : After). u.refusal.number) (by (Err (refusal 11)) (ruled false false f g))) ∙ n in omega arith)

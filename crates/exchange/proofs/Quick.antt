@@ -13,9 +13,9 @@ use Rattle.message.specs.Request.{Request, Reading, Refused, Means}
 use Rattle.message.specs.Walk.{read, request_of}
 use Rattle.memory.specs.Moves.{memory_after}
 use Rattle.memory.proofs.Laws.Promises.{same_length, stays-words}
-use Rattle.tags.specs.declared.rule.Verdict.{Verdict}
-use Rattle.tags.specs.declared.rule.Verdict.TheVariants.{Refused as RefusedBy, New, Repeat, Discovery}
-use Rattle.tags.specs.Rule.{rule_of}
+use Rattle.std.specs.Prelude.{Ok, Err}
+use Rattle.tags.specs.declared.rule.Verdict.TheVariants.{New, Repeat, Discovery}
+use Rattle.tags.specs.Rule.{Ruling, rule_of}
 use Rattle.tags.proofs.Laws.Record.{rule-new}
 use Rattle.completer.specs.Verdict.{judged, as_kept, held_to}
 use Rattle.completer.specs.Serving.{after_by, after}
@@ -48,8 +48,8 @@ module _ (c : Controller) (b x : List ℕ) (h : Sound c) (l : Lendable b) where
       }
 
   -- a message that is judged new is plain, and has the next tag
-  sound-taken : Bytes x → (r : Request) → read x ≡ Means r → rule_of c.tags r.byte0 ≡ New
-      → Sound (after_by New c b x).controller
+  sound-taken : Bytes x → (r : Request) → read x ≡ Means r → rule_of c.tags r.byte0 ≡ Ok New
+      → Sound (after_by (Ok New) c b x).controller
   sound-taken y r m e =
       let n = rule-new c.tags r.byte0 e in
       let p : Plain x = record { bytes = y; request = r; is = m; clear = n.clear } in
@@ -60,16 +60,16 @@ module _ (c : Controller) (b x : List ℕ) (h : Sound c) (l : Lendable b) where
   pub sound-quick : Bytes x → Sound (quick c b x).controller
   sound-quick y = go (read x) refl
     where
-      kept : (tag : ℕ) (k : Bool) → Sound (after_by (cond k (Repeat tag) (RefusedBy (refusal 12))) c b x).controller
+      kept : (tag : ℕ) (k : Bool) → Sound (after_by (cond k (Ok (Repeat tag)) (Err (refusal 12))) c b x).controller
       kept tag true = h
       kept tag false = h
 
-      by : (r : Request) → read x ≡ Means r → (v : Verdict) → rule_of c.tags r.byte0 ≡ v
+      by : (r : Request) → read x ≡ Means r → (v : Ruling) → rule_of c.tags r.byte0 ≡ v
           → Sound (after_by (held_to c.kept c.tags x v) c b x).controller
-      by r m (RefusedBy n) e = h
-      by r m New e = sound-taken y r m e
-      by r m (Repeat tag) e = kept tag (as_kept (request_in c.kept c.tags tag) x)
-      by r m Discovery e = sound-moved
+      by r m (Err n) e = h
+      by r m (Ok New) e = sound-taken y r m e
+      by r m (Ok (Repeat tag)) e = kept tag (as_kept (request_in c.kept c.tags tag) x)
+      by r m (Ok Discovery) e = sound-moved
 
       go : (p : Reading Request) → read x ≡ p
           → Sound (after_by (held_to c.kept c.tags x (judged c.tags p)) c b x).controller

@@ -3,7 +3,7 @@
 -- `NeverTwelve` and `AnswerIsOwn` (proofs/Never.antt). The words used here are defined in Ends (the ends, `ends`),
 -- Terms (messages and what is lent, `terms`), and in the crate `once`: World (events, and what they do), Promise
 -- (`AllowedRun`, `made`, `results`, `Progress`, `Extends`). Assumes nothing.
-use Rattle.std.specs.Prelude.{ℕ, suc, ◌+◌, ◌%◌, ◌<◌, ◌≤◌, ◌≡◌, true, false, cond, ◌⊎◌, List, [], ◌∷◌, ◌++◌, length, get_or, take}
+use Rattle.std.specs.Prelude.{ℕ, suc, ◌+◌, ◌%◌, ◌<◌, ◌≤◌, ◌≡◌, true, false, cond, ◌⊎◌, List, [], ◌∷◌, ◌++◌, length, get_or, take, Ok}
 use Rattle.std.proofs.Math.Option.{Option, none, some}
 use Rattle.std.proofs.Math.ListN.{get_elem?}
 use Rattle.word.specs.Words.{bytes_of}
@@ -209,7 +209,7 @@ AnswerIsOwn = (c : Controller) (output message : List ℕ) (r : Request) → all
     → read message ≡ Means r → discovery_of r.byte0 ≡ false → (after_call c output message).refusal.number ≡ 0
     → (after_call c output message ≡ accepts c output message)
     ⊎ ((request_in c.kept c.tags (tag_of r.byte0) ≡ message)
-    × (after_call c output message ≡ after_by (Repeat (tag_of r.byte0)) c output message))
+    × (after_call c output message ≡ after_by (Ok (Repeat (tag_of r.byte0))) c output message))
 
 -- The sender refuses an answer, and does not change.
 pub record RefusedStill (s : Sender) (r : Taken) : Type 0 where

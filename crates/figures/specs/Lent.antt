@@ -1,12 +1,12 @@
 -- What calls leave in what is lent, which lengths are let by, and where the places stand, in figures.
 -- `proofs/Benched.antt` computes them. Assumes nothing.
-use Rattle.std.specs.Prelude.{ℕ, zero, suc, ◌-◌, ◌*◌, ◌≡◌, Bool, true, false, ◌&&◌, List, [], ◌∷◌, ◌++◌, take, drop, replicate}
+use Rattle.std.specs.Prelude.{ℕ, zero, suc, ◌-◌, ◌*◌, ◌≡◌, Bool, true, false, ◌&&◌, List, [], ◌∷◌, ◌++◌, take, drop, replicate, Ok, Err}
 use Rattle.word.specs.Words.{bytes_of, same}
 use Rattle.header.specs.Refusal.{refusal}
 use Rattle.tags.specs.declared.record.TagRecord.{TagRecord}
-use Rattle.tags.specs.declared.rule.Verdict.{Verdict}
-use Rattle.tags.specs.declared.rule.Verdict.TheVariants.{Refused, New, Repeat}
+use Rattle.tags.specs.declared.rule.Verdict.TheVariants.{New, Repeat}
 use Rattle.tags.specs.Record.{fresh_record}
+use Rattle.tags.specs.Rule.{Ruling}
 use Rattle.tags.specs.Examples.{holding, all}
 use Rattle.completer.specs.Controller.{lent, After, left}
 use Rattle.completer.specs.Verdict.{lent_ok, verdict_by}
@@ -115,7 +115,7 @@ AcrossShown =
 
 -- 1 by lengths, both sides of each: memory of 1 to 16,384 words, stored answers of at least four times 2,243, kept
 -- requests of at least four times 8,972 bytes and an output of at least 8,972; and 1 before 2
-abbrev pub judges : ℕ → ℕ → ℕ → ℕ → TagRecord → List ℕ → Verdict
+abbrev pub judges : ℕ → ℕ → ℕ → ℕ → TagRecord → List ℕ → Ruling
 judges memory stored kept output tags dg = verdict_by memory stored (replicate kept 0) output tags dg
 
 pub record LentShown : Type 0 where
@@ -126,34 +126,34 @@ pub record LentShown : Type 0 where
   pub far_over : lent_ok 65536 8972 ≡ false
   pub short : lent_ok 8 8971 ≡ false
   pub longer : lent_ok 8 8973 ≡ true
-  pub fine : judges 16384 8972 35888 8972 fresh_record (bytes_of write_feed) ≡ New
-  pub two : judges 16384 8972 35888 8972 fresh_record [] ≡ Refused (refusal 2)
-  pub memory : judges 16385 8972 35888 8972 fresh_record [] ≡ Refused (refusal 1)
-  pub stored : judges 16384 8971 35888 8972 fresh_record [] ≡ Refused (refusal 1)
-  pub kept : judges 16384 8972 35887 8972 fresh_record [] ≡ Refused (refusal 1)
-  pub output : judges 16384 8972 35888 8971 fresh_record [] ≡ Refused (refusal 1)
-  pub all : judges 0 0 0 0 (holding_one 16 0 0) [] ≡ Refused (refusal 1)
+  pub fine : judges 16384 8972 35888 8972 fresh_record (bytes_of write_feed) ≡ Ok New
+  pub two : judges 16384 8972 35888 8972 fresh_record [] ≡ Err (refusal 2)
+  pub memory : judges 16385 8972 35888 8972 fresh_record [] ≡ Err (refusal 1)
+  pub stored : judges 16384 8971 35888 8972 fresh_record [] ≡ Err (refusal 1)
+  pub kept : judges 16384 8972 35887 8972 fresh_record [] ≡ Err (refusal 1)
+  pub output : judges 16384 8972 35888 8971 fresh_record [] ≡ Err (refusal 1)
+  pub all : judges 0 0 0 0 (holding_one 16 0 0) [] ≡ Err (refusal 1)
 
 -- (a) under the stored tag, where (a) and then zeros are kept and the record says so many words of it: its own length,
 -- a word less, which (a) starts like, and a word more
-abbrev pub held_words : ℕ → Verdict
+abbrev pub held_words : ℕ → Ruling
 held_words request =
     verdict_by 16384 8972 (bytes_of write_feed ++ replicate 35876 0) 8972 (holding_one 0 1 request) (bytes_of write_feed)
 
 pub record LengthsShown : Type 0 where
-  pub own : held_words 3 ≡ Repeat 0
-  pub shorter : held_words 2 ≡ Refused (refusal 12)
-  pub longer : held_words 4 ≡ Refused (refusal 12)
+  pub own : held_words 3 ≡ Ok (Repeat 0)
+  pub shorter : held_words 2 ≡ Err (refusal 12)
+  pub longer : held_words 4 ≡ Err (refusal 12)
 
 -- [9] the read of this tag, where tags 14, 15, 0 and 1 are held and its bytes stand at this place of the kept requests,
 -- with zeros around them, in a buffer that is longer than it has to be
-abbrev pub held_at : ℕ → ℕ → Verdict
+abbrev pub held_at : ℕ → ℕ → Ruling
 held_at tag place =
     verdict_by 16384 8972 (replicate (8972 * place) 0 ++ (bytes_of (read_as tag) ++ replicate (35892 - 8972 * place) 0))
     8972 (holding 4 1 (all 1) (all 2)) (bytes_of (read_as tag))
 
 pub record PlacesShown : Type 0 where
-  pub own : held_at 15 3 ≡ Repeat 15
-  pub before : held_at 15 2 ≡ Refused (refusal 12)
-  pub newest : held_at 15 1 ≡ Refused (refusal 12)
-  pub first : held_at 15 0 ≡ Refused (refusal 12)
+  pub own : held_at 15 3 ≡ Ok (Repeat 15)
+  pub before : held_at 15 2 ≡ Err (refusal 12)
+  pub newest : held_at 15 1 ≡ Err (refusal 12)
+  pub first : held_at 15 0 ≡ Err (refusal 12)

@@ -21,7 +21,8 @@ use Rattle.message.proofs.Laws.Fixed.{discovery-kind, discovery-bit, discovery-r
 use Rattle.message.proofs.Laws.Pieces.{written_is}
 use Rattle.answer.specs.Discovery.{discovery_answer}
 use Rattle.memory.proofs.Laws.Promises.{quiet}
-use Rattle.tags.specs.declared.rule.Verdict.TheVariants.{Refused as RefusedBy, Discovery}
+use Rattle.std.specs.Prelude.{Ok, Err}
+use Rattle.tags.specs.declared.rule.Verdict.TheVariants.{Discovery}
 use Rattle.tags.specs.Record.{is_fresh, mark_of}
 use Rattle.tags.proofs.Laws.Record.{fresh-fits, held-room, mark-fresh, mark-held, mark-small, rule-finds}
 use Rattle.completer.specs.Controller.{Controller, with_memory, After}
@@ -56,7 +57,7 @@ module _ (c : Controller) (b : List ℕ) (h : Sound c) (l : Lendable b) where
   found-same x r e d k =
       let is = asked_is x r e in
       ap (λ (a : After). a.controller)
-      (serving-is c b h l x Discovery (ap (judged c.tags) e ∙ rule-finds c.tags r.byte0 d))
+      (serving-is c b h l x (Ok Discovery) (ap (judged c.tags) e ∙ rule-finds c.tags r.byte0 d))
       ∙ ap (with_memory c) (quiet (request_of x) c.memory (rw is k))
 
   pub quiet_same : {x : List ℕ} → Finds x → (ends.serve c b x).0 ≡ c
@@ -64,7 +65,7 @@ module _ (c : Controller) (b : List ℕ) (h : Sound c) (l : Lendable b) where
     where
       go : (p : Reading Request) → read x ≡ p → finds_only p → (after c b x).controller ≡ c
       go (Refused n) e q =
-          ap (λ (a : After). a.controller) (serving-is c b h l x (RefusedBy n) (ap (judged c.tags) e))
+          ap (λ (a : After). a.controller) (serving-is c b h l x (Err n) (ap (judged c.tags) e))
       go (Means r) e q = found-same x r e q.0 q.1
 
 pub all_same : (c : Controller) (xs : Others ends) → Sound c → AllQuiet terms xs → quietly ends c xs ≡ c

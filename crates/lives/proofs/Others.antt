@@ -18,6 +18,7 @@ use Rattle.message.proofs.Laws.Fixed.{discovery-byte}
 use Rattle.answer.specs.Answer.{answer_byte}
 use Rattle.answer.proofs.Laws.Heads.{answer-tag}
 use Rattle.answer.proofs.Laws.Accepts.{other_byte}
+use Rattle.std.specs.Prelude.{Ok}
 use Rattle.tags.specs.declared.rule.Verdict.TheVariants.{Discovery}
 use Rattle.tags.proofs.Laws.Record.{rule-finds}
 use Rattle.completer.specs.Verdict.{judged}
@@ -48,7 +49,7 @@ others-refused c o x a r h l bytes e d n g = (ap (λ (m : Moved). m.refusal) sta
     given =
         let v = ap (judged c.tags) e ∙ rule-finds c.tags r.byte0 d in
         some-injective _ _
-        (sym g ∙ ap sent_in (serving-is c o h l x Discovery v) ∙ ap some (words-front o (words c h (request_of x) fits)))
+        (sym g ∙ ap sent_in (serving-is c o h l x (Ok Discovery) v) ∙ ap some (words-front o (words c h (request_of x) fits)))
 
     head : Headed (request_of x) a
     head =

@@ -53,19 +53,14 @@ impl Night {
         if n > limits::LIMIT_BYTES {
             return Err(Refusal::of(Refusal::LENGTH));
         }
-        let served = serving::serve(
+        serving::serve(
             &mut self.memory,
             &mut self.stored,
             &mut self.kept,
             output,
-            self.tags,
+            &mut self.tags,
             &got[4..4 + n],
-        );
-        self.tags = served.tags;
-        if served.refusal.number != Refusal::NONE {
-            return Err(served.refusal);
-        }
-        Ok(served.sent)
+        )
     }
 
     // Record k, a whole one: served, and its line.

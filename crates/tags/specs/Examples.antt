@@ -1,12 +1,11 @@
 -- Records and tags in figures. `proofs/Laws/Worked.antt` computes them. Assumes nothing.
-use Rattle.std.specs.Prelude.{ℕ, zero, suc, ◌+◌, ◌≡◌, Bool, true, false, List, [], ◌∷◌, ◌++◌, replicate}
+use Rattle.std.specs.Prelude.{ℕ, zero, suc, ◌+◌, ◌≡◌, Bool, true, false, List, [], ◌∷◌, ◌++◌, replicate, Ok, Err}
 use Rattle.header.specs.Refusal.{refusal}
 use Rattle.tags.specs.declared.record.TagRecord.{TagRecord}
-use Rattle.tags.specs.declared.rule.Verdict.{Verdict}
-use Rattle.tags.specs.declared.rule.Verdict.TheVariants.{Refused, New, Repeat, Discovery}
+use Rattle.tags.specs.declared.rule.Verdict.TheVariants.{New, Repeat, Discovery}
 use Rattle.tags.specs.Record.{fresh_record, mark_of, most_memory, record_ok, kept_ok, record_by}
 use Rattle.tags.specs.Record.{holds, words_at, request_at}
-use Rattle.tags.specs.Rule.{rule_of}
+use Rattle.tags.specs.Rule.{Ruling, rule_of}
 
 -- a record that holds so many, the newest of this tag, with these answers and these requests at the four places
 abbrev pub holding : ℕ → ℕ → List ℕ → List ℕ → TagRecord
@@ -81,25 +80,25 @@ pub record HeldShown : Type 0 where
   pub four : held_of (holding 4 7 (all 1) (all 1)) 16 ≡ replicate 8 false ++ replicate 4 true ++ replicate 4 false
 
 -- a verdict's number: 0 new, 1 a repeat, 2 a discovery, or its refusal's
-abbrev pub verdict_no : Verdict → ℕ
-verdict_no (Refused r) = r.number
-verdict_no New = 0
-verdict_no (Repeat tag) = 1
-verdict_no Discovery = 2
+abbrev pub verdict_no : Ruling → ℕ
+verdict_no (Err r) = r.number
+verdict_no (Ok New) = 0
+verdict_no (Ok (Repeat tag)) = 1
+verdict_no (Ok Discovery) = 2
 
 -- byte 0 of writes of tag 0, 1, 2, 14 and 15, and of a discovery of tag 2, against what is held: "Stored tag 15: tag 0
 -- is new"; [9] "a fresh controller now takes only tag 0, else 11"
 pub record RulesShown : Type 0 where
-  pub fresh : rule_of fresh_record 0x10 ≡ New
-  pub fresh_else : rule_of fresh_record 0x12 ≡ Refused (refusal 11)
-  pub again : rule_of (holding 1 0 (all 1) (all 1)) 0x10 ≡ Repeat 0
-  pub next : rule_of (holding 1 0 (all 1) (all 1)) 0x11 ≡ New
-  pub early : rule_of (holding 1 0 (all 1) (all 1)) 0x12 ≡ Refused (refusal 11)
-  pub old : rule_of (holding 1 0 (all 1) (all 1)) 0x1F ≡ Refused (refusal 11)
-  pub older : rule_of (holding 2 0 (all 1) (all 1)) 0x1F ≡ Repeat 15
-  pub wrapped : rule_of (holding 1 15 (all 1) (all 1)) 0x10 ≡ New
-  pub late : rule_of (holding 1 15 (all 1) (all 1)) 0x1E ≡ Refused (refusal 11)
-  pub asked : rule_of (holding 1 0 (all 1) (all 1)) 0x92 ≡ Discovery
+  pub fresh : rule_of fresh_record 0x10 ≡ Ok New
+  pub fresh_else : rule_of fresh_record 0x12 ≡ Err (refusal 11)
+  pub again : rule_of (holding 1 0 (all 1) (all 1)) 0x10 ≡ Ok (Repeat 0)
+  pub next : rule_of (holding 1 0 (all 1) (all 1)) 0x11 ≡ Ok New
+  pub early : rule_of (holding 1 0 (all 1) (all 1)) 0x12 ≡ Err (refusal 11)
+  pub old : rule_of (holding 1 0 (all 1) (all 1)) 0x1F ≡ Err (refusal 11)
+  pub older : rule_of (holding 2 0 (all 1) (all 1)) 0x1F ≡ Ok (Repeat 15)
+  pub wrapped : rule_of (holding 1 15 (all 1) (all 1)) 0x10 ≡ Ok New
+  pub late : rule_of (holding 1 15 (all 1) (all 1)) 0x1E ≡ Err (refusal 11)
+  pub asked : rule_of (holding 1 0 (all 1) (all 1)) 0x92 ≡ Ok Discovery
 
 -- the verdicts on the first n tags, the highest first, in a byte 0 that has this besides
 unfoldable pub verdicts : TagRecord → ℕ → ℕ → List ℕ

@@ -208,23 +208,16 @@ fn one_more(held: u32) -> u32
     TagRecord::PLACES
 }
 
-// The record after a message of so many words was carried out, whose answer has n words.
-pub fn record_after(tags: TagRecord, byte0: u32, n: u32, request: u32, keep: bool) -> TagRecord
-    ensures { result ≡ record_by keep tags byte0 n request }
+// The record after a message of so many words was carried out and kept, whose answer has n words.
+pub fn record_after(tags: TagRecord, byte0: u32, n: u32, request: u32) -> TagRecord
+    ensures { result ≡ record_by true tags byte0 n request }
 {
-    if !keep {
-        return tags;
-    }
     let tag = header::tag(byte0);
     let at = place(tag);
-    let lengths = tags.words;
-    let words = write_at(lengths, at, n);
-    let asked = tags.request;
-    let request = write_at(asked, at, request);
     TagRecord {
         held: one_more(tags.held),
         tag,
-        words,
-        request,
+        words: write_at(tags.words, at, n),
+        request: write_at(tags.request, at, request),
     }
 }

@@ -8,10 +8,9 @@ use crate::record::TagRecord;
 use header::limits;
 use header::refusal::Refusal;
 
-// What is to be done about a datagram. A repeat is one of this tag.
+// What is to be done about a datagram that is not refused. A repeat is one of this tag.
 #[derive(Clone, Copy)]
 pub enum Verdict {
-    Refused(Refusal),
     New,
     Repeat(u32),
     Discovery,
@@ -41,19 +40,19 @@ fn expected(tags: TagRecord, tag: u32) -> bool
 
 // The verdict on a well-formed message of this byte 0, by its tag. No tag is both new and held, so that a new one, the
 // most common, is asked for first.
-pub fn rule(tags: TagRecord, byte0: u32) -> Verdict
+pub fn rule(tags: TagRecord, byte0: u32) -> Result<Verdict, Refusal>
     requires { record_ok tags ≡ true }
     ensures { result ≡ rule_of tags byte0 }
 {
     if header::discovery(byte0) {
-        return Verdict::Discovery;
+        return Ok(Verdict::Discovery);
     }
     let tag = header::tag(byte0);
     if expected(tags, tag) {
-        return Verdict::New;
+        return Ok(Verdict::New);
     }
     if holds(tags, tag) {
-        return Verdict::Repeat(tag);
+        return Ok(Verdict::Repeat(tag));
     }
-    Verdict::Refused(Refusal::of(Refusal::OUT_OF_STEP))
+    Err(Refusal::of(Refusal::OUT_OF_STEP))
 }

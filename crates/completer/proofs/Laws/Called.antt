@@ -26,27 +26,31 @@ use Rattle.message.proofs.Laws.Back.{means-asked, written_read}
 use Rattle.carrying.specs.Answers.{words_to}
 use Rattle.carrying.proofs.Laws.Promises.{answer-fits}
 use Rattle.tags.specs.declared.record.TagRecord.{TagRecord}
-use Rattle.tags.specs.declared.rule.Verdict.{Verdict}
-use Rattle.tags.specs.declared.rule.Verdict.TheVariants.{Refused, New, Repeat, Discovery}
-use Rattle.tags.specs.Rule.{rule_of}
+use Rattle.std.specs.Prelude.{Ok, Err}
+use Rattle.tags.specs.declared.rule.Verdict.TheVariants.{New, Repeat, Discovery}
+use Rattle.tags.specs.Rule.{Ruling, rule_of}
 use Rattle.tags.specs.Record.{places, place_of, mark_of, most_memory, words_at, request_at, record_ok, kept_ok}
 use Rattle.tags.proofs.Laws.Record.{held-lengths, mark-small, rule-again, rule-repeats, rule-eleven, rule-new}
 use Rattle.tags.proofs.Laws.Kept.{kept-own, kept-older, still-held}
 use Rattle.completer.specs.Controller.{Controller, request_in, answer_in, After}
 use Rattle.completer.specs.Verdict.{lent_ok, judged, as_kept, held_to, verdict_by, verdict_of}
 use Rattle.completer.specs.Serving.{answer_by, after_by, after}
-use Rattle.completer.specs.Settling.{refusal_of}
 use Rattle.completer.specs.Called.{Unchanged, RefusalKeeps, allowed, RefusedWhere, OtherBytes, TwelveExactly, tag_in, OthersStay, FourHeld, NewStores, RepeatSends, DiscoveryKeeps}
-use Rattle.completer.proofs.Inner.Verdicts.{one, let_by, held_new, carrying, repeat-is}
+use Rattle.completer.proofs.Inner.Verdicts.{one, let_by, held_else, carrying, repeat-is}
+
+-- the refusal that a verdict gives; number 0: none
+abbrev refusal_of : Ruling → Refusal
+refusal_of (Err r) = r
+refusal_of (Ok v) = refusal 0
 
 -- where something lent is not allowed, whatever the datagram is
-one-first : (a b : Bool) (v : Verdict) → a && b ≡ false → refusal_of (cond a (cond b v one) one) ≡ refusal 1
+one-first : (a b : Bool) (v : Ruling) → a && b ≡ false → refusal_of (cond a (cond b v one) one) ≡ refusal 1
 one-first true true v e = absurd (false≢true (sym e))
 one-first true false v e = refl
 one-first false b v e = refl
 
 -- where all is allowed, the datagram's
-then-judged : (a b : Bool) (v : Verdict) → a && b ≡ true → refusal_of (cond a (cond b v one) one) ≡ refusal_of v
+then-judged : (a b : Bool) (v : Ruling) → a && b ≡ true → refusal_of (cond a (cond b v one) one) ≡ refusal_of v
 then-judged true true v e = refl
 then-judged true false v e = absurd (false≢true e)
 then-judged false b v e = absurd (false≢true e)
@@ -55,11 +59,9 @@ then-judged false b v e = absurd (false≢true e)
 rule-at : (t : TagRecord) (byte0 : ℕ) → (refusal_of (rule_of t byte0)).at ≡ 0
 rule-at t byte0 = go (rule_of t byte0) refl
   where
-    go : (v : Verdict) → rule_of t byte0 ≡ v → (refusal_of v).at ≡ 0
-    go (Refused r) e = rw (rule-eleven t byte0 r e)
-    go New e = refl
-    go (Repeat tag) e = refl
-    go Discovery e = refl
+    go : (v : Ruling) → rule_of t byte0 ≡ v → (refusal_of v).at ≡ 0
+    go (Err r) e = rw (rule-eleven t byte0 r e)
+    go (Ok v) e = refl
 
 -- the kept request, and what is not
 pub kept_self : (a : List ℕ) → as_kept a a ≡ true
@@ -82,13 +84,13 @@ kept-unlike a b h = go (as_kept a b) refl
     go false e = refl
 
 -- by its bytes a message is refused with index 0 too
-held_at : (kept : List ℕ) (tags : TagRecord) (dg : List ℕ) (v : Verdict) → (refusal_of v).at ≡ 0 → (refusal_of (held_to kept tags dg v)).at ≡ 0
-held_at kept tags dg (Refused r) e = e
-held_at kept tags dg New e = refl
-held_at kept tags dg Discovery e = refl
-held_at kept tags dg (Repeat tag) e = go (as_kept (request_in kept tags tag) dg)
+held_at : (kept : List ℕ) (tags : TagRecord) (dg : List ℕ) (v : Ruling) → (refusal_of v).at ≡ 0 → (refusal_of (held_to kept tags dg v)).at ≡ 0
+held_at kept tags dg (Err r) e = e
+held_at kept tags dg (Ok New) e = refl
+held_at kept tags dg (Ok Discovery) e = refl
+held_at kept tags dg (Ok (Repeat tag)) e = go (as_kept (request_in kept tags tag) dg)
   where
-    go : (b : Bool) → (refusal_of (cond b (Repeat tag) (Refused (refusal 12)))).at ≡ 0
+    go : (b : Bool) → (refusal_of (cond b (Ok (Repeat tag)) (Err (refusal 12)))).at ≡ 0
     go true = refl
     go false = refl
 
@@ -113,21 +115,21 @@ module _ (c : Controller) (o dg : List ℕ) where
   unfolding after
   refusal-keeps = go (verdict_of c o dg)
     where
-      go : (v : Verdict) → ((after_by v c o dg).refusal.number ≡ 0 → ⊥) → Unchanged c o (after_by v c o dg)
-      go (Refused n) h = record { sent = refl; controller = refl; output = refl }
-      go New h = absurd (h refl)
-      go (Repeat tag) h = absurd (h refl)
-      go Discovery h = absurd (h refl)
+      go : (v : Ruling) → ((after_by v c o dg).refusal.number ≡ 0 → ⊥) → Unchanged c o (after_by v c o dg)
+      go (Err n) h = record { sent = refl; controller = refl; output = refl }
+      go (Ok New) h = absurd (h refl)
+      go (Ok (Repeat tag)) h = absurd (h refl)
+      go (Ok Discovery) h = absurd (h refl)
 
   -- the call's refusal is its verdict's
-  by-verdict : (v : Verdict) → (after_by v c o dg).refusal ≡ refusal_of v
-  by-verdict (Refused n) = refl
-  by-verdict New = refl
-  by-verdict (Repeat tag) = refl
-  by-verdict Discovery = refl
+  by-verdict : (v : Ruling) → (after_by v c o dg).refusal ≡ refusal_of v
+  by-verdict (Err n) = refl
+  by-verdict (Ok New) = refl
+  by-verdict (Ok (Repeat tag)) = refl
+  by-verdict (Ok Discovery) = refl
 
   -- the verdict on the datagram, where all that is lent is allowed
-  abbrev held : Verdict
+  abbrev held : Ruling
   held = held_to c.kept c.tags dg (judged c.tags (read dg))
 
   pub refused-where : RefusedWhere c o dg
@@ -148,7 +150,7 @@ module _ (c : Controller) (o dg : List ℕ) where
       b : Bool
       b = kept_ok (length c.stored) (length c.kept) c.tags
 
-      v : Verdict
+      v : Ruling
       v = cond a (cond b held one) one
 
       zero : (k : Bool) → a && b ≡ k → (refusal_of held).at ≡ 0 → (refusal_of v).at ≡ 0
@@ -159,15 +161,15 @@ module _ (c : Controller) (o dg : List ℕ) where
   record NewIs : Type 0 where
     means : read dg ≡ Means (request_of dg)
     ok : record_ok c.tags ≡ true
-    rule : rule_of c.tags (request_of dg).byte0 ≡ New
+    rule : rule_of c.tags (request_of dg).byte0 ≡ Ok New
     stored : places * limit ≤ length c.stored
     kept : places * limit_bytes ≤ length c.kept
 
-  new_is : verdict_of c o dg ≡ New → NewIs
+  new_is : verdict_of c o dg ≡ Ok New → NewIs
   new_is e =
-      let k = carrying {kept = c.kept} (sym e) refl in
-      let l = let_by {kept = c.kept} {tags = c.tags} {dg = dg} (sym e) (λ z. let n : ◌≡◌ {A = ℕ} 0 1 = cc in omega arith) in
-      let j = held_new c.kept c.tags dg (judged c.tags (read dg)) l.is in
+      let k = carrying {kept = c.kept} New (sym e) in
+      let l = let_by {kept = c.kept} {tags = c.tags} {dg = dg} (sym e) (λ z. cc) in
+      let j = held_else c.kept c.tags dg (judged c.tags (read dg)) New l.is in
       record { means = k.means; ok = k.good; rule = sym (ap (judged c.tags) k.means) ∙ j; stored = k.stored; kept = k.room }
 
   pub new-stores : NewStores c o dg
@@ -249,21 +251,21 @@ module _ (c : Controller) (o dg : List ℕ) where
   unfolding verdict_by
   verdict-is e = let t = (and-eq-true_iff (lent_ok (length c.memory) (length o)) _).0 e in rw (t.0, t.1)
 
-  pub called-by : allowed c o ≡ true → (v : Verdict) → held ≡ v → after c o dg ≡ after_by v c o dg
+  pub called-by : allowed c o ≡ true → (v : Ruling) → held ≡ v → after c o dg ≡ after_by v c o dg
   unfolding after
   called-by a v e = rw (verdict-is a, e)
 
 -- 12, exactly when
 module _ (c : Controller) (o dg : List ℕ) where
   -- a verdict on a message that was read, where its refusal is 12
-  twelve-held : (r : Request) → read dg ≡ Means r → (v : Verdict) → rule_of c.tags r.byte0 ≡ v → (refusal_of (held_to c.kept c.tags dg v)).number ≡ 12
+  twelve-held : (r : Request) → read dg ≡ Means r → (v : Ruling) → rule_of c.tags r.byte0 ≡ v → (refusal_of (held_to c.kept c.tags dg v)).number ≡ 12
       → OtherBytes c dg
-  twelve-held r m (Refused x) e q = absurd (omega (arith, sym (ap (λ (y : Refusal). y.number) (rule-eleven c.tags r.byte0 x e)) ∙ q))
-  twelve-held r m New e q = absurd (omega arith)
-  twelve-held r m Discovery e q = absurd (omega arith)
-  twelve-held r m (Repeat tag) e q = go (as_kept (request_in c.kept c.tags tag) dg) refl q
+  twelve-held r m (Err x) e q = absurd (omega (arith, sym (ap (λ (y : Refusal). y.number) (rule-eleven c.tags r.byte0 x e)) ∙ q))
+  twelve-held r m (Ok New) e q = absurd (omega arith)
+  twelve-held r m (Ok Discovery) e q = absurd (omega arith)
+  twelve-held r m (Ok (Repeat tag)) e q = go (as_kept (request_in c.kept c.tags tag) dg) refl q
     where
-      go : (b : Bool) → as_kept (request_in c.kept c.tags tag) dg ≡ b → (refusal_of (cond b (Repeat tag) (Refused (refusal 12)))).number ≡ 12 → OtherBytes c dg
+      go : (b : Bool) → as_kept (request_in c.kept c.tags tag) dg ≡ b → (refusal_of (cond b (Ok (Repeat tag)) (Err (refusal 12)))).number ≡ 12 → OtherBytes c dg
       go true z p = absurd (omega arith)
       go false z p =
           let a = rule-again c.tags r.byte0 tag e in
@@ -283,7 +285,7 @@ module _ (c : Controller) (o dg : List ℕ) where
           let tag = tag_of x.request.byte0 in
           let again = rule-repeats c.tags x.request.byte0 tag (record { held = x.held; clear = x.clear; is = refl }) in
           ap (λ (f : After). f.refusal)
-          (called-by c o dg a (Refused (refusal 12)) (rw (x.reads, again, kept-unlike (request_in c.kept c.tags tag) dg x.differ)))
+          (called-by c o dg a (Err (refusal 12)) (rw (x.reads, again, kept-unlike (request_in c.kept c.tags tag) dg x.differ)))
 
       read_as : Bytes dg → (p : Reading Request) → read dg ≡ p → (refusal_of (held_to c.kept c.tags dg (judged c.tags p))).number ≡ 12 → OtherBytes c dg
       read_as b (message.Refused r) m q = absurd (omega (arith, (refusal-range dg b r m).1, q))
@@ -295,6 +297,34 @@ module _ (c : Controller) (o dg : List ℕ) where
           let v = held_to c.kept c.tags dg (judged c.tags (read dg)) in
           let f = ap (λ (y : After). y.refusal.number) (called-by c o dg a v refl) ∙ ap (λ (y : Refusal). y.number) (by-verdict c o dg v) in
           (a, read_as b (read dg) refl (sym f ∙ e))
+
+-- a refusal has a number
+pub refused-number : (m s : ℕ) (kept : List ℕ) (o : ℕ) (tags : TagRecord) (dg : List ℕ) → Bytes dg → (r : Refusal) → verdict_by m s kept o tags dg ≡ Err r → r.number ≡ 0 → ⊥
+unfolding verdict_by
+refused-number m s kept o tags dg b r = go (lent_ok m o) (kept_ok s (length kept) tags)
+  where
+    number : (n : ℕ) → 0 < n → ◌≡◌ {A = Ruling} (Err (refusal n)) (Err r) → r.number ≡ 0 → ⊥
+    number n h e z = let i : refusal n ≡ r = cc in omega (arith, ap (λ (q : Refusal). q.number) i, z)
+
+    held_to-number : (byte0 : ℕ) (v : Ruling) → rule_of tags byte0 ≡ v → held_to kept tags dg v ≡ Err r → r.number ≡ 0 → ⊥
+    held_to-number byte0 (Err x) e q z =
+        let i : x ≡ r = cc in omega (arith, ap (λ (y : Refusal). y.number) (sym (rule-eleven tags byte0 x e) ∙ i), z)
+    held_to-number byte0 (Ok New) e q z = cc
+    held_to-number byte0 (Ok Discovery) e q z = cc
+    held_to-number byte0 (Ok (Repeat tag)) e q z = by (as_kept (request_in kept tags tag) dg) q
+      where
+        by : (k : Bool) → cond {A = Ruling} k (Ok (Repeat tag)) (Err (refusal 12)) ≡ Err r → ⊥
+        by true p = cc
+        by false p = number 12 (omega arith) p z
+
+    read_as : (p : Reading Request) → read dg ≡ p → held_to kept tags dg (judged tags p) ≡ Err r → r.number ≡ 0 → ⊥
+    read_as (message.Refused x) m q z = let i : x ≡ r = cc in omega (arith, refusal-range dg b x m, ap (λ (y : Refusal). y.number) i, z)
+    read_as (Means x) m q z = held_to-number x.byte0 (rule_of tags x.byte0) refl q z
+
+    go : (x y : Bool) → cond x (cond y (held_to kept tags dg (judged tags (read dg))) one) one ≡ Err r → r.number ≡ 0 → ⊥
+    go true true q z = read_as (read dg) refl q z
+    go true false q z = number 1 (omega arith) q z
+    go false y q z = number 1 (omega arith) q z
 
 -- what is lent passes check 1
 pub lent_fits : (memory output : ℕ) → 1 ≤ memory → memory ≤ most_memory → limit_bytes ≤ output → lent_ok memory output ≡ true

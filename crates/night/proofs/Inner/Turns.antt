@@ -12,9 +12,11 @@ use Rattle.header.specs.declared.refusal.Refusal.{Refusal}
 use Rattle.header.specs.Limits.{limit_bytes}
 use Rattle.header.specs.Refusal.{refusal}
 use Rattle.header.proofs.Laws.Refusal.{ok_of, err_of}
-use Rattle.std.proofs.Common.{Ok, Err}
+use Rattle.std.proofs.Common.{refl, Ok, Err}
 use Rattle.completer.specs.Controller.{Controller, left}
 use Rattle.completer.specs.Serving.{after}
+use Rattle.completer.specs.Settling.{gave}
+use Rattle.std.specs.Prelude.{◌≢◌, Result, IfErr}
 use Rattle.night.specs.Text.{Sent, Refused, Short, line_of, text_of, Wrote}
 use Rattle.night.specs.Night.{record_bytes, length_of, datagram_of, after_record, Serves, turned, whole_turn, turn_of, Left, leaves, left_by}
 
@@ -55,6 +57,11 @@ module _ (c : Controller) (o got : List ℕ) where
     controller_is = rw (← e);
     output_is = rw (← e);
   }
+
+  pub serves-by : (result : Result ℕ Refusal) {c' : Controller} {o' : List ℕ} → gave result c' o' ≡ after_record c o got → IfErr result (λ r. r.number ≢ 0)
+      → Serves c o got result c' o'
+  serves-by (Ok n) e h = serves-ok e refl
+  serves-by (Err r) e h = serves-err e h
 
 -- its line
 module _ (c : Controller) (k : ℕ) (got l : List ℕ) {c' : Controller} {r : ℕ} {l' : List ℕ} where

@@ -11,9 +11,9 @@ use Rattle.header.specs.Limits.{limit, limit_bytes}
 use Rattle.header.specs.Header.{tag_of, discovery_of, next_tag}
 use Rattle.header.specs.Refusal.{refusal}
 use Rattle.tags.specs.declared.record.TagRecord.{TagRecord}
-use Rattle.tags.specs.declared.rule.Verdict.{Verdict}
-use Rattle.tags.specs.declared.rule.Verdict.TheVariants.{Refused, New, Repeat, Discovery}
-use Rattle.tags.specs.Rule.{expected, rule_of}
+use Rattle.tags.specs.declared.rule.Verdict.TheVariants.{New, Repeat, Discovery}
+use Rattle.std.specs.Prelude.{Result, Ok, Err}
+use Rattle.tags.specs.Rule.{Ruling, expected, rule_of}
 use Rattle.tags.specs.Record.{places, place_of, is_fresh, mark_of, back, holds, words_at, request_at, words_ok, place_ok, lengths_ok, places_ok, held_ok, record_ok, kept_ok}
 
 -- a length that is let by
@@ -176,29 +176,16 @@ pub record Again (tags : TagRecord) (byte0 tag : ℕ) : Type 0 where
   pub clear : discovery_of byte0 ≡ false
   pub is : tag_of byte0 ≡ tag
 
--- a verdict's number, and the tag of a repeat
-abbrev rank : Verdict → ℕ
-rank (Refused r) = 0
-rank New = 1
-rank (Repeat tag) = 2
-rank Discovery = 3
-
-abbrev again : Verdict → ℕ
-again (Refused r) = 0
-again New = 0
-again (Repeat tag) = tag
-again Discovery = 0
-
-pub rule-again : (tags : TagRecord) (byte0 tag : ℕ) → rule_of tags byte0 ≡ Repeat tag → Again tags byte0 tag
+pub rule-again : (tags : TagRecord) (byte0 tag : ℕ) → rule_of tags byte0 ≡ Ok (Repeat tag) → Again tags byte0 tag
 unfolding rule_of
 rule-again tags byte0 tag e = go (discovery_of byte0) (holds tags (tag_of byte0)) (expected tags (tag_of byte0)) refl refl e
   where
     go : (a b c : Bool) → discovery_of byte0 ≡ a → holds tags (tag_of byte0) ≡ b
-        → cond a Discovery (cond b (Repeat (tag_of byte0)) (cond c New (Refused (refusal 11)))) ≡ Repeat tag → Again tags byte0 tag
-    go true b c y z q = absurd (omega (arith, ap rank q))
-    go false true c y z q = let t : tag_of byte0 ≡ tag = ap again q in record { held = rw (← t) z; clear = y; is = t }
-    go false false true y z q = absurd (omega (arith, ap rank q))
-    go false false false y z q = absurd (omega (arith, ap rank q))
+        → cond {A = Ruling} a (Ok Discovery) (cond b (Ok (Repeat (tag_of byte0))) (cond c (Ok New) (Err (refusal 11)))) ≡ Ok (Repeat tag) → Again tags byte0 tag
+    go true b c y z q = cc
+    go false true c y z q = let t : tag_of byte0 ≡ tag = cc in record { held = rw (← t) z; clear = y; is = t }
+    go false false true y z q = cc
+    go false false false y z q = cc
 
 -- a new message: its tag is the expected one, and it is no discovery
 pub record Newly (tags : TagRecord) (byte0 : ℕ) : Type 0 where
@@ -206,40 +193,40 @@ pub record Newly (tags : TagRecord) (byte0 : ℕ) : Type 0 where
   pub other : holds tags (tag_of byte0) ≡ false
   pub expected : expected tags (tag_of byte0) ≡ true
 
-pub rule-new : (tags : TagRecord) (byte0 : ℕ) → rule_of tags byte0 ≡ New → Newly tags byte0
+pub rule-new : (tags : TagRecord) (byte0 : ℕ) → rule_of tags byte0 ≡ Ok New → Newly tags byte0
 unfolding rule_of
 rule-new tags byte0 e = go (discovery_of byte0) (holds tags (tag_of byte0)) (expected tags (tag_of byte0)) refl refl refl e
   where
     go : (a b c : Bool) → discovery_of byte0 ≡ a → holds tags (tag_of byte0) ≡ b → expected tags (tag_of byte0) ≡ c
-        → cond a Discovery (cond b (Repeat (tag_of byte0)) (cond c New (Refused (refusal 11)))) ≡ New → Newly tags byte0
-    go true b c x y z q = absurd (omega (arith, ap rank q))
-    go false true c x y z q = absurd (omega (arith, ap rank q))
+        → cond {A = Ruling} a (Ok Discovery) (cond b (Ok (Repeat (tag_of byte0))) (cond c (Ok New) (Err (refusal 11)))) ≡ Ok New → Newly tags byte0
+    go true b c x y z q = cc
+    go false true c x y z q = cc
     go false false true x y z q = record { clear = x; other = y; expected = z }
-    go false false false x y z q = absurd (omega (arith, ap rank q))
+    go false false false x y z q = cc
 
 -- the verdict by the tag: a discovery's, that of no discovery, and the index of a refusal
 module _ (tags : TagRecord) (byte0 : ℕ) where
-  pub rule-finds : discovery_of byte0 ≡ true → rule_of tags byte0 ≡ Discovery
+  pub rule-finds : discovery_of byte0 ≡ true → rule_of tags byte0 ≡ Ok Discovery
   unfolding rule_of
   rule-finds e = rw e
 
   pub rule-plain : discovery_of byte0 ≡ false
-      → rule_of tags byte0 ≡ cond (holds tags (tag_of byte0)) (Repeat (tag_of byte0)) (cond (expected tags (tag_of byte0)) New (Refused (refusal 11)))
+      → rule_of tags byte0 ≡ cond (holds tags (tag_of byte0)) (Ok (Repeat (tag_of byte0))) (cond (expected tags (tag_of byte0)) (Ok New) (Err (refusal 11)))
   unfolding rule_of
   rule-plain e = rw e
 
-  pub rule-eleven : (r : Refusal) → rule_of tags byte0 ≡ Refused r → r ≡ refusal 11
+  pub rule-eleven : (r : Refusal) → rule_of tags byte0 ≡ Err r → r ≡ refusal 11
   unfolding rule_of
   rule-eleven r e = go (discovery_of byte0) (holds tags (tag_of byte0)) (expected tags (tag_of byte0)) e
     where
-      go : (a b c : Bool) → cond a Discovery (cond b (Repeat (tag_of byte0)) (cond c New (Refused (refusal 11)))) ≡ Refused r → r ≡ refusal 11
-      go true b c q = absurd (omega (arith, ap rank q))
-      go false true c q = absurd (omega (arith, ap rank q))
-      go false false true q = absurd (omega (arith, ap rank q))
+      go : (a b c : Bool) → cond {A = Ruling} a (Ok Discovery) (cond b (Ok (Repeat (tag_of byte0))) (cond c (Ok New) (Err (refusal 11)))) ≡ Err r → r ≡ refusal 11
+      go true b c q = cc
+      go false true c q = cc
+      go false false true q = cc
       go false false false q = let i : refusal 11 ≡ r = cc in sym i
 
 -- a tag that is held, by a message that is no discovery, is a repeat
-pub rule-repeats : (tags : TagRecord) (byte0 tag : ℕ) → Again tags byte0 tag → rule_of tags byte0 ≡ Repeat tag
+pub rule-repeats : (tags : TagRecord) (byte0 tag : ℕ) → Again tags byte0 tag → rule_of tags byte0 ≡ Ok (Repeat tag)
 rule-repeats tags byte0 tag a = rule-plain tags byte0 a.clear ∙ rw (a.is, a.held)
 
 -- a fresh record's tag, and another's

@@ -4,7 +4,7 @@ use mathlib.Core.Path.{◌≡◌, refl, ◌∙◌}
 use native.Mathlib.Omega.{arith}
 use Rattle.header.specs.Limits.{limit}
 use Rattle.message.proofs.Laws.Going.{read_first}
-use Rattle.completer.proofs.Inner.Verdicts.{place-room, acted}
+use Rattle.completer.proofs.Inner.Verdicts.{place-room, kept-or, acted}
 use Rattle.completer.proofs.serving.act.Goals as goal
 
 pub bounds-datagram-0 : goal.bounds-datagram-0
@@ -24,11 +24,11 @@ carry-n-requires c =
       record { stored = place-room a.stored.now c.place-place.result c.place-place.ensures.below c.requires.2; output = c.requires.3 },
     )
 
-pub overflow_cast-result : goal.overflow_cast-result
-overflow_cast-result c = omega (arith, c.carry-n.ensures.within)
+pub overflow_cast-message : goal.overflow_cast-message
+overflow_cast-message c = omega (arith, c.carry-n.ensures.within)
 
-pub overflow_cast-result-2 : goal.overflow_cast-result-2
-overflow_cast-result-2 c =
+pub overflow_cast-message-2 : goal.overflow_cast-message-2
+overflow_cast-message-2 c =
     omega (arith, (read_first c.args.datagram.now _ c.requires.0).0.most)
 
 pub returns : goal.returns
@@ -36,6 +36,5 @@ returns c =
     let a = c.args in
     let first = c.from-byte0.ensures ∙ (read_first a.datagram.now _ c.requires.0).1 in
     let size : limit * c.place-place.result + limit - limit * c.place-place.result ≡ limit = omega arith in
-    rw c.of.ensures
-    (acted a.stored.now a.kept.now a.datagram.now a.tags a.keep first c.mark-mark.ensures c.tag.ensures.value c.place-place.ensures.value refl size c.requires.2
-    c.carry-n.ensures.within c.carry-n.ensures.carries refl c.keep_request.ensures refl)
+    acted a.stored.now a.kept.now a.datagram.now a.tags a.keep first c.mark-mark.ensures c.tag.ensures.value c.place-place.ensures.value refl size c.requires.2
+    c.carry-n.ensures.within c.carry-n.ensures.carries refl c.keep_request.ensures (kept-or a.tags a.keep _ c.then_some.ensures refl)
