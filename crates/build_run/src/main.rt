@@ -13,6 +13,7 @@ use std::io;
 
 mod refused;
 
+// Kinds as begin takes them: numbers that can be wrong, so 3 is tried too.
 pub(crate) const NOP: u32 = 0;
 
 pub(crate) const WRITE: u32 = 1;

@@ -83,7 +83,7 @@ impl Night {
         ensures { leaves (controller_of self.new) result line.new.length line.new.bytes
             ≡ left_by (turn_of (controller_of self.old) k got.now) line.old.bytes }
     {
-        if got.len() == 0 {
+        if got.is_empty() {
             line.clear();
             return false;
         }

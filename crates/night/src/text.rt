@@ -50,7 +50,7 @@ impl Line {
         self.length = end;
     }
 
-    // The same of a number in decimal.
+    // The same of a number in decimal, by `io::decimal`, whose contract says each digit.
     fn number(&mut self, n: u64)
         requires { self.old.length + most_digits ≤ line_bytes }
         ensures wrote { Wrote self.old.bytes self.old.length (decimal n) self.new.length self.new.bytes }

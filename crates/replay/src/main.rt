@@ -14,6 +14,7 @@ fn main(rt: HostRuntime) -> std::io::Result<()> {
     let mut line = Line::empty();
     let mut out = std::io::writer(&rt);
     for k in 1..=u64::MAX {
+        // The input may end within a record, which `read_exact` would make an error.
         let n = io::read_full(STDIN, &mut recorded);
         let more = night.play(k, show::front(&recorded, n), &mut line);
         out.write_all(line.text())?;
