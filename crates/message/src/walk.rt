@@ -1,5 +1,5 @@
 // The walk of a request: one step at a header, and the whole of any datagram.
-ghost use Rattle.std.specs.Prelude.{◌≡◌, ℕ, ◌+◌, ◌≤◌, true, cond, eqb, leb, length};
+ghost use Rattle.std.specs.Prelude.{◌≡◌, ℕ, ◌≤◌, true, cond, length};
 ghost use Rattle.message.specs.Request.{Request, given};
 ghost use Rattle.word.specs.Words.{words_of};
 ghost use Rattle.header.specs.declared.Kind.TheVariants.{Write, Read as Reads};
@@ -19,24 +19,27 @@ fn writes(byte0: u32) -> bool
     matches!(header::kind_of(byte0), Kind::Write)
 }
 
-// Whether a body of this size stands in the words that are left, and is the last of them where its header is LAST.
-fn stands(last: bool, body: usize, left: usize) -> bool
-    ensures { result ≡ cond last (eqb left body) (leb body left) }
-{
-    if last { left == body } else { body <= left }
-}
-
 // Whether this is a write of one word without fault, the most common command, whatever its address; of the rest nothing
-// is said. Its last enables are 0, its count is 1 and its reserved bits are 0 exactly if bits 30:12 are 16.
-#[tactic(auto, using(crate::proofs::Laws::Faults::short_faultless))]
+// is said. Its last enables are 0, its count is 1 and its reserved bits are 0 exactly if bits 30:12 are 16. Each test
+// returns by itself, and so does each arm of `step_at`: joined by `&&`, the walk is slower.
 fn short_write(byte0: u32, h: u32, left: usize) -> bool
     ensures { result ≡ true
         → (kind_of byte0 ≡ Write) × (count_of h ≡ 1) × ((address : ℕ) → fault_of byte0 h left address ≡ 0) }
 {
-    writes(byte0)
-        && header::byte0(h) == byte0
-        && h / 4096 % 524288 == 16
-        && stands(header::last(h), header::address_words(byte0) + 1, left)
+    if !writes(byte0) {
+        return false;
+    }
+    if header::byte0(h) != byte0 {
+        return false;
+    }
+    if h / 4096 % 524288 != 16 {
+        return false;
+    }
+    let body = header::address_words(byte0) + 1;
+    if header::last(h) {
+        return left == body;
+    }
+    body <= left
 }
 
 // Whether byte 0 is a read's; where this says no, nothing is said.
@@ -52,11 +55,19 @@ fn reads(byte0: u32) -> bool
 fn last_read(byte0: u32, h: u32, left: usize) -> bool
     ensures { result ≡ true → (address : ℕ) → fault_of byte0 h left address ≡ 0 }
 {
-    reads(byte0)
-        && header::byte0(h) == byte0
-        && h / 268435456 == 8
-        && header::count(h) != 0
-        && left == header::address_words(byte0)
+    if !reads(byte0) {
+        return false;
+    }
+    if header::byte0(h) != byte0 {
+        return false;
+    }
+    if h / 268435456 != 8 {
+        return false;
+    }
+    if header::count(h) == 0 {
+        return false;
+    }
+    left == header::address_words(byte0)
 }
 
 // The header at word `at` of a datagram. The body of a short write has a size of its own here, so that the processor
@@ -79,9 +90,10 @@ pub(crate) fn step_at(byte0: u32, datagram: &[u8], at: usize) -> Result<Head, Re
             last: header::last(h),
         });
     }
-    if !last_read(byte0, h, left) {
-        faults::fault(byte0, h, left, datagram, place)?;
+    if last_read(byte0, h, left) {
+        return Ok(header::head_of(byte0, h));
     }
+    faults::fault(byte0, h, left, datagram, place)?;
     Ok(header::head_of(byte0, h))
 }
 

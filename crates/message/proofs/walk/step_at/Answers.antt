@@ -11,7 +11,6 @@ use Rattle.message.specs.Faults.{fault_of}
 use Rattle.message.specs.Walk.{step_on, step_at}
 use Rattle.message.specs.Address.{address_from}
 use Rattle.message.proofs.Laws.Faults.{step-read}
-use Rattle.message.proofs.walk.step_at.Goals.{then-not-last_read+in_ok-fault, else-not-last_read}
 use Rattle.message.proofs.walk.step_at.Goals as goal
 use Rattle.std.proofs.Common.{rules}
 use Rattle.word.proofs.Rules.{tests}
@@ -24,15 +23,3 @@ returns-then-short_write c =
     let address = address_from (address_words a.byte0) (drop (a.at + 1) (words_of a.datagram.now)) in
     rw (length-words_of a.datagram.now, ← c.word_at-h.ensures, check-passed _ _ c.in_ok-check.ensures, step-read _ _ _ _ _ (s.2 address))
     (simp (s.0, s.1, c.byte1.ensures.value, c.address_words.ensures.value, c.last.ensures))
-
-pub returns : goal.returns
-unfolding step_at
-returns c =
-    let a = c.args in
-    let address = address_from (address_words a.byte0) (drop (a.at + 1) (words_of a.datagram.now)) in
-    let none : fault_of a.byte0 c.word_at-h.result (length a.datagram.now / 4 - a.at - 1) address ≡ 0 = elim c.if-not-last_read.branch [
-      | then-not-last_read+in_ok-fault w ↦ (ok_of _ tt w.in_ok-fault.ensures).0
-      | else-not-last_read w ↦ c.last_read.ensures w.if-not-last_read.false address
-    ] in
-    rw (length-words_of a.datagram.now, ← c.word_at-h.ensures, check-passed _ _ c.in_ok-check.ensures, step-read _ _ _ _ _ none)
-    (simp c.head_of.ensures)
