@@ -1,13 +1,13 @@
 -- What any bytes mean, or their refusal: one step of the walk, the walk, and what the function `walk` tells of it.
 -- "Then the commands are walked, at each header 3 (no word there), 4 to 8, 3 (body past the end), 9. Then 10". Assumes
 -- nothing.
-use Rattle.std.specs.Prelude.{ℕ, zero, suc, ◌+◌, ◌-◌, cond, List, [], ◌∷◌, length, get_or, take, drop, ltb, leb, eqb, Result, Ok, Err}
+use Rattle.std.specs.Prelude.{ℕ, zero, suc, ◌+◌, ◌-◌, cond, List, [], ◌∷◌, length, get_or, take, drop, ltb, leb, Result, Ok, Err}
 use Rattle.word.specs.Words.{words_of}
+use Rattle.header.specs.declared.Head.{Head}
 use Rattle.header.specs.declared.refusal.Refusal.{Refusal}
 use Rattle.header.specs.Limits.{limit, length_ok}
 use Rattle.header.specs.Header.{kind_of, byte1_of, count_of, address_words, data_words, head_of}
 use Rattle.header.specs.Refusal.{refused_at, refusal, result_of}
-use Rattle.header.specs.declared.Head.{Head}
 use Rattle.message.specs.Faults.{fault_of}
 use Rattle.message.specs.Request.{Command, Request, Reading, before, replies, Refused, Means}
 use Rattle.message.specs.Address.{address_from}

@@ -18,7 +18,7 @@ use Rattle.header.specs.Limits.{length_ok}
 use Rattle.header.proofs.Laws.Header.{byte0-back, byte1-back, count-back, reserved-back, last-back, header-lt, header_is}
 use Rattle.header.proofs.Laws.Limits.{right}
 use Rattle.message.specs.Request.{Command, Request, Refused, Means, before, replies, none, FitsCommand, All, Fits}
-use Rattle.message.proofs.Laws.Faults.{no-mean, past, before-is}
+use Rattle.message.proofs.Laws.Faults.{past, before-is}
 use Rattle.message.proofs.Laws.Round.{length-right, ends_at}
 use Rattle.std.specs.Prelude.{Ok, Err}
 use Rattle.answer.specs.Answer.{Answered, code_of, status_no, answer_byte, stops, answer_fault, seen_of, look_on, look_turn, answers_from, judge, answered_words, answer_words, encode_answer, FitsAnswered, FitsAnswers}
@@ -186,8 +186,8 @@ module _ (byte0 : ℕ) where
 
   answers-is : (at : ℕ) (cs : List Command) (ws : List ℕ) (items : List Answered) → Words ws → answers_from byte0 at cs ws ≡ Means items → Answer cs ws items
   unfolding answers_from look_on seen_of Below
-  answers-is at [] ws items e m = no-mean m
-  answers-is at (c ∷ cs) [] items e m = no-mean m
+  answers-is at [] ws items e m = cc
+  answers-is at (c ∷ cs) [] items e m = cc
   answers-is at (c ∷ cs) (h ∷ rest) items e m =
       go (λ n x y. answers-is (at + 1 + n) cs (drop n rest) x (below-drop _ n rest e.1) y) (eqb (answer_fault byte0 c.count (none cs) h (length rest)) 0) refl m
     where
@@ -205,7 +205,7 @@ module _ (byte0 : ℕ) where
           → (b : Bool) → eqb (answer_fault byte0 c.count (none cs) h (length rest)) 0 ≡ b
           → look_turn (cond b (Ok (seen_of h)) (Err (refused_at (answer_fault byte0 c.count (none cs) h (length rest)) at))) rest (λ n. answers_from byte0 (at + 1 + n) cs (drop n rest)) ≡ Means items
           → Answer (c ∷ cs) (h ∷ rest) items
-      go ih false z x = no-mean x
+      go ih false z x = cc
       go ih true z x = by (fair byte0 c.count (none cs) h (length rest) (eqb-true _ _ z)) ih (last_of h) refl x
 
 pub judge-encoded : JudgeEncoded

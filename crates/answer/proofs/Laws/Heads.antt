@@ -1,7 +1,7 @@
 -- Laws of an answer's header: its status, its byte 0, its faults passed one by one. The laws of answers cite these. Assumes nothing.
 use Prim.Native.Nat.{ℕ, zero, suc, ◌<◌, ◌≤◌}
 use mathlib.Core.Path.{◌≡◌, refl, sym}
-use mathlib.Core.Bool.{Bool, true, false, beq, false≢true}
+use mathlib.Core.Bool.{Bool, true, false, beq}
 use native.Mathlib.Omega.{arith}
 use borrow.Author.Tests.{eqb-true, leb-true, ltb-true, eq-eqb, le-leb, lt-ltb}
 use lib.Dec.{ltb, leb, eqb}
@@ -65,8 +65,8 @@ wanted-reply byte0 count Error = omega arith
 -- an answer that does not stop is OK, and not that of the last command
 pub stops-clear : (s : Status) (last : Bool) → stops s last ≡ false → (s ≡ Ok) × (last ≡ false)
 stops-clear Ok last e = (refl, e)
-stops-clear Timeout last e = absurd (false≢true (sym e))
-stops-clear Error last e = absurd (false≢true (sym e))
+stops-clear Timeout last e = cc
+stops-clear Error last e = cc
 
 -- one flag beside another
 pub beq-set : (b : Bool) → beq true b ≡ b
@@ -76,8 +76,8 @@ beq-set false = refl
 pub same_flag : (a b : Bool) → beq a b ≡ true → a ≡ b
 same_flag true true e = refl
 same_flag false false e = refl
-same_flag true false e = absurd (false≢true e)
-same_flag false true e = absurd (false≢true e)
+same_flag true false e = cc
+same_flag false true e = cc
 
 pub flag_same : (a b : Bool) → a ≡ b → beq a b ≡ true
 flag_same true true e = refl

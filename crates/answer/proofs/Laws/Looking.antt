@@ -65,8 +65,8 @@ found byte0 count last ws at s e = go (ltb at (length ws)) refl (eqb (answer_fau
     go : (a : Bool) → ltb at (length ws) ≡ a → (b : Bool) → eqb (answer_fault byte0 count last (get_or ws at 0) (length ws - at - 1)) 0 ≡ b
         → cond a (cond b (Ok (seen_of (get_or ws at 0))) (Err (refused_at (answer_fault byte0 count last (get_or ws at 0) (length ws - at - 1)) at))) (Err (refused_at 35 at)) ≡ Ok s
         → Found byte0 count last ws at s
-    go false z b y e = let n : ◌≡◌ {A = ℕ} 0 1 = cc in absurd (omega arith)
-    go true z false y e = let n : ◌≡◌ {A = ℕ} 0 1 = cc in absurd (omega arith)
+    go false z b y e = cc
+    go true z false y e = cc
     go true z true y e =
         let l = ltb-true at (length ws) z in
         let f = fair byte0 count last (get_or ws at 0) (length ws - at - 1) (eqb-true _ _ y) in

@@ -17,7 +17,7 @@ use Rattle.header.specs.Refusal.{refused_at, refusal}
 use Rattle.header.specs.Limits.{length_ok}
 use Rattle.header.proofs.Laws.Refusal.{Between, unless-between, Further, further-here, further-on, further-at, number_is, at-is}
 use Rattle.message.specs.Request.{Command, Request, Refused, Means, before, none, FitsCommand, All, Fits}
-use Rattle.message.proofs.Laws.Faults.{no-mean, same-refusal, before-wrong}
+use Rattle.message.proofs.Laws.Faults.{same-refusal, before-wrong}
 use Rattle.message.proofs.Laws.Round.{none_before}
 use Rattle.std.specs.Prelude.{Ok, Err}
 use Rattle.answer.specs.Answer.{Answered, status_no, answer_byte, wanted, stops, answer_fault, seen_of, look_on, look_turn, answers_from, judge, answered_words}
@@ -51,7 +51,7 @@ Fault byte0 at r cs ws = Further 34 35 (λ n on. AnswerFaultAfter byte0 n on cs 
 -- from the answer to its words: good answers, then the fault
 after-judge : (byte0 at : ℕ) (cs : List Command) (ws : List ℕ) (r : Refusal) → none cs ≡ false → Words ws → answers_from byte0 at cs ws ≡ Refused r → Fault byte0 at r cs ws
 unfolding answers_from look_on seen_of answer_fault_in open_answers AllOk Below
-after-judge byte0 at [] ws r s e m = absurd (false≢true (sym s))
+after-judge byte0 at [] ws r s e m = cc
 after-judge byte0 at (c ∷ cs) [] r s e m =
     rw (← same-refusal m)
     (further-here 35 at (omega arith) (omega arith)
@@ -97,7 +97,7 @@ after-judge byte0 at (c ∷ cs) (h ∷ rest) r s e m =
         → (b : Bool) → last_of h ≡ b
         → cond b (Means (item_of byte0 h rest ∷ [])) (before (item_of byte0 h rest) (answers_from byte0 (at + 1 + count_of h) cs (drop (count_of h) rest))) ≡ Refused r
         → Fault byte0 at r (c ∷ cs) (h ∷ rest)
-    by f ih true l x = no-mean (sym x)
+    by f ih true l x = cc
     by f ih false l x =
         let more = (stops-clear (status_no (byte1_of h)) (none cs) (sym f.stopped ∙ l)).1 in
         further-on at (1 + count_of h) (at + 1 + count_of h) (omega arith) (behind f l) (ih (count_of h) more (before-wrong (item_of byte0 h rest) _ x))

@@ -22,7 +22,7 @@ use Rattle.message.specs.Faults.{asks}
 use Rattle.message.specs.Walk.{step_on, command_of, turn, commands_from, ended, read, request_of}
 use Rattle.message.specs.Request.{Command, Request, Reading, Refused, Means, before, replies, command_words, none, request_words, written, FitsCommand, All}
 use Rattle.message.specs.Promises.{WrittenRead}
-use Rattle.message.proofs.Laws.Faults.{SoundBefore, sound, fault_before, no-mean, past, before-is}
+use Rattle.message.proofs.Laws.Faults.{SoundBefore, sound, fault_before, past, before-is}
 use Rattle.message.proofs.Laws.Addresses.{address_is, address-top}
 
 -- the command of a header that stands with its body
@@ -84,8 +84,8 @@ module _ (byte0 h : ℕ) (rest : List ℕ) (s : SoundBefore byte0 h rest) (hw : 
 
 pub commands-backed : (byte0 at skip : ℕ) (ws : List ℕ) (cs : List Command) → Words ws → commands_from byte0 at skip ws ≡ Means cs → Backed byte0 (drop skip ws) cs
 unfolding commands_from Below head_of step_on
-commands-backed byte0 at zero [] cs e m = no-mean m
-commands-backed byte0 at (suc n) [] cs e m = no-mean m
+commands-backed byte0 at zero [] cs e m = cc
+commands-backed byte0 at (suc n) [] cs e m = cc
 commands-backed byte0 at (suc n) (w ∷ ws) cs e m = commands-backed byte0 at n ws cs e.1 m
 commands-backed byte0 at zero (h ∷ rest) cs e m = go (λ n ds x. commands-backed byte0 (at + 1 + n) n rest ds e.1 x) (eqb (fault_before byte0 h rest) 0) refl m
   where
@@ -102,14 +102,14 @@ commands-backed byte0 at zero (h ∷ rest) cs e m = go (λ n ds x. commands-back
         → (b : Bool) → eqb (fault_before byte0 h rest) 0 ≡ b
         → turn (cond b (Ok (head_of byte0 h)) (Err (refused_at (fault_before byte0 h rest) at))) (command_of byte0 h rest) (λ n. commands_from byte0 (at + 1 + n) n rest) ≡ Means cs
         → Backed byte0 (h ∷ rest) cs
-    go ih false z x = no-mean x
+    go ih false z x = cc
     go ih true z x = by (sound byte0 h (length rest) _ (eqb-true _ _ z)) ih (last_of h) refl x
 
 -- what was read, by its parts
 pub ended_is : (byte0 : ℕ) (p : Reading (List Command)) (r : Request) → ended byte0 p ≡ Means r
     → (r.byte0 ≡ byte0) × (p ≡ Means r.commands) × (replies byte0 r.commands ≤ limit)
 unfolding ended
-ended_is byte0 (Refused n) r e = no-mean e
+ended_is byte0 (Refused n) r e = cc
 ended_is byte0 (Means cs) r e =
     let p = past (leb (replies byte0 cs) limit) _ _ e in
     let q : record { byte0 = byte0; commands = cs } ≡ r = cc in

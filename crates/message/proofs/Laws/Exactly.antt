@@ -26,7 +26,7 @@ use Rattle.message.specs.Walk.{step_on, command_of, turn, commands_from, ended, 
 use Rattle.message.specs.Request.{Command, Request, Reading, Refused, Means, before, replies, command_words, written, FitsCommand, All}
 use Rattle.message.specs.Promises.{RefusalRange}
 use Rattle.message.specs.Exactly.{open_words, fault_in, FaultAfter, TooLong, Exactly}
-use Rattle.message.proofs.Laws.Faults.{SoundBefore, sound, fault_before, step-refused, no-mean, same-refusal, before-wrong}
+use Rattle.message.proofs.Laws.Faults.{SoundBefore, sound, fault_before, step-refused, same-refusal, before-wrong}
 use Rattle.message.proofs.Laws.Round.{command-long, one-back, read_asked, read-written}
 use Rattle.message.proofs.Laws.Back.{one-fits, one-is, commands-backed, written_read}
 
@@ -86,7 +86,7 @@ after-walk byte0 at zero (h ∷ rest) r e m = go (λ n x. after-walk byte0 (at +
         → (b : Bool) → last_of h ≡ b
         → cond b (Means (command_of byte0 h rest ∷ [])) (before (command_of byte0 h rest) (commands_from byte0 (at + 1 + body) body rest)) ≡ Refused r
         → Fault byte0 at r (h ∷ rest)
-    by s ih true l x = no-mean (sym x)
+    by s ih true l x = cc
     by s ih false l x = further-on at (1 + body) (at + 1 + body) (omega arith) (behind s l) (ih body (before-wrong (command_of byte0 h rest) _ x))
 
     go : ((n : ℕ) → commands_from byte0 (at + 1 + n) n rest ≡ Refused r → Fault byte0 (at + 1 + n) r (drop n rest))
@@ -129,7 +129,7 @@ why dg r hb m = go (length_ok (length dg)) refl (commands_from (get_or dg 0 0) 0
   where
     tenth : length_ok (length dg) ≡ true → (cs : List Command) → commands_from (get_or dg 0 0) 0 0 (words_of dg) ≡ Means cs
         → (b : Bool) → leb (replies (get_or dg 0 0) cs) limit ≡ b → cond {A = Reading Request} b (Means (record { byte0 = get_or dg 0 0; commands = cs })) (Refused (refusal 10)) ≡ Refused r → Why dg r
-    tenth l cs w true z x = no-mean (sym x)
+    tenth l cs w true z x = cc
     tenth l cs w false z x = over l cs w (leb-false _ _ z) (same-refusal x)
 
     go : (a : Bool) → length_ok (length dg) ≡ a → (p : Reading (List Command)) → commands_from (get_or dg 0 0) 0 0 (words_of dg) ≡ p

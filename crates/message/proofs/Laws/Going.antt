@@ -2,7 +2,7 @@
 use Prim.Native.Nat.{ℕ, ◌+◌, ◌-◌, ◌*◌, ◌<◌, ◌≤◌}
 use mathlib.Core.Path.{◌≡◌, refl, sym, ap, ◌∙◌}
 use mathlib.Core.List.{List, ◌∷◌}
-use mathlib.Core.Bool.{Bool, true, false, cond, false≢true}
+use mathlib.Core.Bool.{Bool, true, false, cond}
 use native.Mathlib.Omega.{arith}
 use native.Mathlib.Numerals.{add-one}
 use borrow.Author.Tests.{eqb-true, ltb-true, ltb-false}
@@ -69,8 +69,8 @@ got byte0 ws at d e = go (ltb at (length ws)) refl (eqb fault 0) refl e
     go : (a : Bool) → ltb at (length ws) ≡ a → (b : Bool) → eqb fault 0 ≡ b
         → cond a (cond b (Ok (head_of byte0 (get_or ws at 0))) (Err (refused_at fault at))) (Err (refused_at 3 at)) ≡ Ok d
         → Got byte0 ws at d
-    go false z b y e = let n : ◌≡◌ {A = ℕ} 0 1 = cc in absurd (omega arith)
-    go true z false y e = let n : ◌≡◌ {A = ℕ} 0 1 = cc in absurd (omega arith)
+    go false z b y e = cc
+    go true z false y e = cc
     go true z true y e =
         let l = ltb-true at (length ws) z in
         let s = sound byte0 (get_or ws at 0) (length ws - at - 1) _ (eqb-true _ _ y) in
@@ -91,7 +91,7 @@ pub reply-by : (kind : Kind) (count : ℕ) → asks kind ≡ true → cond (is_w
 reply-by Nop count e = refl
 reply-by Write count e = refl
 reply-by Reads count e = refl
-reply-by Response count e = absurd (false≢true e)
+reply-by Response count e = cc
 
 -- the walk stands before word `at`, with so many words answered
 pub record Going (byte0 : ℕ) (ws : List ℕ) (at answer : ℕ) : Type 0 where

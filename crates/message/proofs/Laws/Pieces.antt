@@ -1,7 +1,7 @@
 -- A request's words piece by piece: an address, a command, one command more. Whoever writes a request cites these. Assumes nothing.
 use Prim.Native.Nat.{ℕ, ◌+◌, ◌%◌, ◌<◌, ◌≤◌}
 use mathlib.Core.Path.{◌≡◌, refl, sym, ◌∙◌}
-use mathlib.Core.Bool.{Bool, true, false, cond, not, ◌&&◌, ◌||◌, false≢true}
+use mathlib.Core.Bool.{Bool, true, false, cond, not, ◌&&◌, ◌||◌}
 use mathlib.Core.List.{List, [], ◌∷◌, ◌++◌, append_assoc, append-nil}
 use native.Mathlib.Omega.{arith}
 use lib.ListN.{length, get_or}
@@ -99,7 +99,7 @@ some_pattern count address = go (eqb count 1) (eqb count 2 && eqb (address % 8) 
 module _ (byte0 : ℕ) (hb : byte0 < 256) where
   asking : (cs : List Command) → none cs ≡ false → All (FitsCommand byte0) cs → asks (kind_of byte0) ≡ true
   unfolding All
-  asking [] h f = absurd (false≢true (sym h))
+  asking [] h f = cc
   asking (c ∷ cs) h f = counted-asks (kind_of byte0) c.count f.0.counted
 
   open-words : asks (kind_of byte0) ≡ true → (cs : List Command) → All (FitsCommand byte0) cs → Words (open_words byte0 cs)
@@ -109,12 +109,12 @@ module _ (byte0 : ℕ) (hb : byte0 < 256) where
 
   open-first : (cs : List Command) → none cs ≡ false → All (FitsCommand byte0) cs → get_or (bytes_of (open_words byte0 cs)) 0 0 ≡ byte0
   unfolding open_words command_words bytes_of All
-  open-first [] h f = absurd (false≢true (sym h))
+  open-first [] h f = cc
   open-first (c ∷ cs) h f = byte0-back byte0 c.byte1 c.count false hb f.0.byte f.0.twelve
 
   open-some : (cs : List Command) → none cs ≡ false → 0 < length (open_words byte0 cs)
   unfolding open_words command_words
-  open-some [] h = absurd (false≢true (sym h))
+  open-some [] h = cc
   open-some (c ∷ cs) h = omega arith
 
   open-three : (cs : List Command) → none cs ≡ false → All (FitsCommand byte0) cs → length (open_words byte0 cs) ≤ limit

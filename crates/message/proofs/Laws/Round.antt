@@ -1,6 +1,6 @@
 -- A fitting request's bytes read as itself. Whoever writes a request cites `read-written`. Assumes nothing.
 use Prim.Native.Nat.{ℕ, ◌+◌, ◌<◌, ◌≤◌}
-use mathlib.Core.Path.{◌≡◌, refl, sym, ◌∙◌}
+use mathlib.Core.Path.{◌≡◌, refl, ◌∙◌}
 use mathlib.Core.Bool.{Bool, true, false, cond, false≢true}
 use mathlib.Core.List.{List, [], ◌∷◌, ◌++◌, append_assoc}
 use native.Mathlib.Omega.{arith}
@@ -108,7 +108,7 @@ module _ (byte0 : ℕ) (hb : byte0 < 256) (asking : asks (kind_of byte0) ≡ tru
 
   pub all_back : (at : ℕ) (cs : List Command) → none cs ≡ false → All (FitsCommand byte0) cs → commands_from byte0 at 0 (request_words byte0 cs) ≡ Means cs
   unfolding All request_words
-  all_back at [] h f = absurd (false≢true (sym h))
+  all_back at [] h f = cc
   all_back at (c ∷ []) h f = one-back true c f.0 at [] (λ e. refl)
   all_back at (c ∷ d ∷ cs) h f = one-back false c f.0 at (request_words byte0 (d ∷ cs)) (λ e. absurd (false≢true e)) ∙ rw (all_back (at + 1 + body_words byte0 c.count) (d ∷ cs) refl f.1)
 
@@ -128,12 +128,12 @@ module _ (byte0 : ℕ) (hb : byte0 < 256) (asking : asks (kind_of byte0) ≡ tru
 -- the first byte of a request's bytes is its byte 0
 pub first_byte : (byte0 : ℕ) (cs : List Command) → byte0 < 256 → none cs ≡ false → All (FitsCommand byte0) cs → get_or (bytes_of (request_words byte0 cs)) 0 0 ≡ byte0
 unfolding request_words command_words bytes_of All
-first_byte byte0 [] hb h f = absurd (false≢true (sym h))
+first_byte byte0 [] hb h f = cc
 first_byte byte0 (c ∷ cs) hb h f = byte0-back byte0 c.byte1 c.count (none cs) hb f.0.byte f.0.twelve
 
 pub request-some : (byte0 : ℕ) (cs : List Command) → none cs ≡ false → 0 < length (request_words byte0 cs)
 unfolding request_words command_words
-request-some byte0 [] h = absurd (false≢true (sym h))
+request-some byte0 [] h = cc
 request-some byte0 (c ∷ cs) h = omega arith
 
 -- the length of some words' bytes is right where there are some words and not too many

@@ -8,12 +8,10 @@ use Rattle.word.proofs.Crossing.{length-words_of}
 use Rattle.header.specs.Header.{head_of, address_words}
 use Rattle.header.proofs.Laws.Refusal.{check-passed, ok_of}
 use Rattle.message.specs.Faults.{fault_of}
-use Rattle.message.specs.Walk.{step_on, step_at}
+use Rattle.message.specs.Walk.{step_at}
 use Rattle.message.specs.Address.{address_from}
 use Rattle.message.proofs.Laws.Faults.{step-read}
 use Rattle.message.proofs.walk.step_at.Goals as goal
-use Rattle.std.proofs.Common.{rules}
-use Rattle.word.proofs.Rules.{tests}
 
 pub returns-then-short_write : goal.returns-then-short_write
 unfolding step_at head_of
