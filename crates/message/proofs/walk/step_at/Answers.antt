@@ -1,13 +1,11 @@
 -- `message::walk::step_at` meets its contract: no header, a short write, a last read, the fault, or the header. Assumes
 -- nothing.
-use mathlib.Core.Path.{◌≡◌}
-use Prim.Native.Nat.{◌+◌, ◌-◌, ◌/◌}
-use lib.ListN.{drop, length}
+use Prim.Native.Nat.{◌+◌}
+use lib.ListN.{drop}
 use Rattle.word.specs.Words.{words_of}
 use Rattle.word.proofs.Crossing.{length-words_of}
 use Rattle.header.specs.Header.{head_of, address_words}
-use Rattle.header.proofs.Laws.Refusal.{check-passed, ok_of}
-use Rattle.message.specs.Faults.{fault_of}
+use Rattle.header.proofs.Laws.Refusal.{check-passed}
 use Rattle.message.specs.Walk.{step_at}
 use Rattle.message.specs.Address.{address_from}
 use Rattle.message.proofs.Laws.Faults.{step-read}
