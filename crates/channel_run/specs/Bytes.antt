@@ -1,5 +1,6 @@
 -- A message or an answer as the programs hold it, and a message of one command. Assumes nothing.
-use Rattle.std.specs.Prelude.{ℕ, ◌*◌, ◌%◌, false, cond, List, [], ◌∷◌, ltb, eqb, length, get_or, set, take, replicate, ◌≡◌, Result, Ok, Err}
+use Rattle.std.specs.Prelude.{ℕ, ◌*◌, ◌%◌, ◌≡◌, false, cond, List, [], ◌∷◌, ltb, eqb, length, get_or, set, take, replicate}
+use Rattle.std.specs.Prelude.{Result, Ok, Err}
 use Rattle.header.specs.declared.refusal.Refusal.{Refusal}
 use Rattle.header.specs.Limits.{limit, limit_bytes}
 use Rattle.building.specs.declared.asked.Asked.{Asked}

@@ -1,5 +1,11 @@
--- The discoveries of strangers in a night. Assumes nothing.
+-- How a life ends in a night, and the discoveries of strangers. Assumes nothing.
 use Rattle.std.specs.Prelude.{ℕ, cond, List, [], ◌∷◌, eqb}
+use Rattle.channel_run.specs.declared.night.End.{End}
+use Rattle.channel_run.specs.declared.night.End.TheVariants.{Restart, Reset, Over}
+
+-- the end of a number in a script
+abbrev pub end_of : ℕ → End
+end_of number = cond (eqb number 0) Restart (cond (eqb number 1) Reset Over)
 
 -- a read of words 0 and 1, by a discovery with tag 1; 7 is one with tag 2
 abbrev pub stranger_bytes : ℕ → List ℕ

@@ -4,7 +4,7 @@ ghost use Rattle.std.specs.Prelude.{◌≡◌, replicate};
 ghost use Rattle.message.specs.Discovery.{discovery_bytes};
 ghost use Rattle.channel_run.specs.Bytes.{no_bytes, datagram_in, place_of};
 ghost use Rattle.channel_run.specs.Controller.{fresh_with, answering_after};
-ghost use Rattle.channel_run.specs.Night.{stranger_bytes};
+ghost use Rattle.channel_run.specs.Night.{end_of, stranger_bytes};
 
 use crate::Channel;
 use crate::controller::{Answering, Arrived, Controller};
@@ -26,7 +26,9 @@ pub enum End {
 
 impl End {
     // The end of this number.
-    pub fn of(number: u32) -> End {
+    pub fn of(number: u32) -> End
+        ensures { result ≡ end_of number }
+    {
         match number {
             0 => End::Restart,
             1 => End::Reset,
