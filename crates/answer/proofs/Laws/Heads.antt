@@ -27,13 +27,6 @@ code-status (suc zero) h = refl
 code-status (suc (suc zero)) h = refl
 code-status (suc (suc (suc n))) h = absurd (omega arith)
 
--- what is neither 0 nor 1 names an Error
-pub status-rest : (n : ℕ) → (n ≡ 0 → ⊥) → (n ≡ 1 → ⊥) → Error ≡ status_no n
-unfolding status_no
-status-rest zero a b = absurd (a refl)
-status-rest (suc zero) a b = absurd (b refl)
-status-rest (suc (suc n)) a b = refl
-
 pub code_lt : (s : Status) → code_of s < 3
 code_lt Ok = omega arith
 code_lt Timeout = omega arith
@@ -69,10 +62,6 @@ stops-clear Timeout last e = cc
 stops-clear Error last e = cc
 
 -- one flag beside another
-pub beq-set : (b : Bool) → beq true b ≡ b
-beq-set true = refl
-beq-set false = refl
-
 pub same_flag : (a b : Bool) → beq a b ≡ true → a ≡ b
 same_flag true true e = refl
 same_flag false false e = refl

@@ -1,11 +1,11 @@
 -- A header's faults and a reading's checks, passed one by one. The laws of requests and answers cite these. Assumes nothing.
-use Prim.Native.Nat.{ℕ, zero, suc, ◌+◌, ◌*◌, ◌/◌, ◌%◌, ◌<◌, ◌≤◌}
+use Prim.Native.Nat.{ℕ, zero, suc, ◌+◌, ◌*◌, ◌/◌, ◌%◌, ◌≤◌}
 use mathlib.Core.Path.{◌≡◌, refl, sym, ap, ◌∙◌}
 use mathlib.Core.Bool.{Bool, true, false, not, cond, ◌&&◌, or-true, and-eq-true_iff, false≢true}
 use mathlib.Core.List.{List, [], ◌∷◌}
 use native.Mathlib.Nat.{add-zero, div-div-eq-div-mul, mul-mod_right}
 use native.Mathlib.Omega.{arith}
-use borrow.Author.Tests.{eqb-true, eqb-false, leb-true, eq-eqb, ne_eqb, le-leb}
+use borrow.Author.Tests.{eqb-true, leb-true, eq-eqb, ne_eqb, le-leb}
 use lib.Dec.{leb, eqb}
 use lib.ListN.{length, get_or, drop}
 use lib.Seq.{get_or-drop}
@@ -143,14 +143,6 @@ fault_before byte0 h rest = fault_of byte0 h (length rest) (address_from (addres
 
 abbrev pub SoundBefore : ℕ → ℕ → List ℕ → Type 0
 SoundBefore byte0 h rest = Sound byte0 h (length rest) (address_from (address_words byte0) rest)
-
--- a first field of E or F
-pub first-field-high : (n : ℕ) → 14 ≤ n → n < 16 → first_field_ok n ≡ true
-first-field-high n h k = go (eqb n 15) refl
-  where
-    go : (b : Bool) → eqb n 15 ≡ b → first_field_ok n ≡ true
-    go true z = rw (eqb-true n 15 z)
-    go false z = let d = eqb-false n 15 z in let e : n ≡ 14 = omega arith in rw e
 
 -- fields without a gap are nonzero: for every count but 1 they are allowed, at every address
 passes-some : (ok : ℕ → Bool) → ok 0 ≡ false → (n : ℕ) → ok n ≡ true → eqb n 0 ≡ false
