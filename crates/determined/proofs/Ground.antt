@@ -1,6 +1,6 @@
 -- The contracts of the public functions below the ends are determined. Assumes nothing.
 use Rattle.determined.specs.Ground.{InWord, InHeader, InMessage, InAnswer, InMemory, InCarrying, InTags}
-use Rattle.determined.proofs.Equal.{firsts, one_of, first_of, two-of}
+use Rattle.determined.proofs.Equal.{both, firsts, one_of, first_of, two-of}
 
 pub in-word : InWord
 in-word =
@@ -61,6 +61,8 @@ in-message =
 pub in-answer : InAnswer
 in-answer =
     record {
+      status-no = λ M 𝓤 𝓛 mem run κs a g one other. one_of 𝓤;
+      code = λ M 𝓤 𝓛 mem run κs a g one other. both 𝓤 (λ p q. rw (p.0, q.0));
       answer-byte = λ M 𝓤 𝓛 mem run κs a g one other. first_of 𝓤;
       look-on = λ M 𝓤 𝓛 mem run κs a g one other. one_of 𝓤;
       look_at = λ M 𝓤 𝓛 mem run κs a g one other. one_of 𝓤;

@@ -43,6 +43,8 @@ use Rattle.message.specs.contracts.discovery.bytes as BytesOf
 use Rattle.message.specs.contracts.faults.count_ok as CountOk
 use Rattle.message.specs.contracts.faults.pattern_ok as PatternOk
 use Rattle.message.specs.contracts.walk.walk as Walk
+use Rattle.answer.specs.contracts.StatusTryFromU32.try_from as StatusNo
+use Rattle.answer.specs.contracts.U32FromStatus.from as Code
 use Rattle.answer.specs.contracts.answer_byte as AnswerByte
 use Rattle.answer.specs.contracts.look_on as LookOn
 use Rattle.answer.specs.contracts.look_at as LookAt
@@ -113,6 +115,8 @@ pub record InMessage : Type 2 where
 
 -- `answer`
 pub record InAnswer : Type 2 where
+  pub status-no : Determined StatusNo.ended (λ M 𝓤. StatusNo.clauses) (λ κs r e. r)
+  pub code : Determined Code.ended (λ M 𝓤. Code.clauses) (λ κs r e. r)
   pub answer-byte : Determined AnswerByte.ended (λ M 𝓤. AnswerByte.clauses) (λ κs r e. r)
   pub look-on : Determined LookOn.ended (λ M 𝓤. LookOn.clauses) (λ κs r e. r)
   pub look_at : Determined LookAt.ended (λ M 𝓤. LookAt.clauses) (λ κs r e. r)
