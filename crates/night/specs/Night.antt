@@ -1,10 +1,9 @@
 -- "The replay program": the records of a night, what each makes of the controller, and the text of it all. Assumes
 -- nothing.
-use Rattle.std.specs.Prelude.{ℕ, zero, suc, ◌≡◌, ◌+◌, ◌*◌, ◌/◌, Bool, true, false, cond, List, [], ◌++◌, ltb, eqb, length, take, drop, get_or, replicate, Result}
+use Rattle.std.specs.Prelude.{ℕ, zero, suc, ◌+◌, ◌*◌, ◌/◌, Bool, true, false, cond, List, [], ◌++◌, ltb, eqb, length, take, drop, get_or, replicate}
 use Rattle.word.specs.Words.{words_of, put}
 use Rattle.header.specs.Limits.{limit, limit_bytes}
-use Rattle.header.specs.declared.refusal.Refusal.{Refusal}
-use Rattle.header.specs.Refusal.{refusal, result_of}
+use Rattle.header.specs.Refusal.{refusal}
 use Rattle.tags.specs.Record.{places, fresh_record}
 use Rattle.completer.specs.Controller.{Controller, lent, After, left}
 use Rattle.completer.specs.Serving.{after}
@@ -27,12 +26,6 @@ datagram_of r = take (length_of r) (drop 4 r)
 unfoldable pub after_record : Controller → List ℕ → List ℕ → After
 after_record c output r =
     cond (ltb limit_bytes (length_of r)) (left (refusal 2) 0 c output) (after c output (datagram_of r))
-
--- serving the record r gave the result, and left c' and output'
-pub record Serves (c : Controller) (output r : List ℕ) (result : Result ℕ Refusal) (c' : Controller) (output' : List ℕ) : Type 0 where
-  pub gives : result ≡ result_of (after_record c output r).refusal (after_record c output r).sent
-  pub controller_is : c' ≡ (after_record c output r).controller
-  pub output_is : output' ≡ (after_record c output r).output
 
 -- a turn: the controller after it, its text, and whether records may follow
 pub record Turned : Type 0 where

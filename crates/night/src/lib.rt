@@ -2,9 +2,10 @@
 // whoever reads the records and writes the lines out needs to know no more.
 #![tactic(auto)]
 
-ghost use Rattle.std.specs.Prelude.{◌≤◌, ◌≡◌, true, length};
+ghost use Rattle.std.specs.Prelude.{◌≤◌, ◌≡◌, ◌≢◌, true, length, IfErr};
+ghost use Rattle.completer.specs.Settling.{gave};
 ghost use Rattle.night.specs.Text.{tag_text, Wrote};
-ghost use Rattle.night.specs.Night.{record_bytes, Serves, whole_turn, turn_of, at_first};
+ghost use Rattle.night.specs.Night.{record_bytes, after_record, whole_turn, turn_of, at_first};
 ghost use Rattle.night.specs.Night.{controller_of, leaves, left_by};
 
 use completer::serving;
@@ -47,7 +48,9 @@ impl Night {
     // A whole record served: the bytes sent.
     fn serve(&mut self, got: &[u8], output: &mut [u8]) -> Result<usize, Refusal>
         requires { record_bytes ≤ length got.now }
-        ensures { Serves (controller_of self.old) output.old got.now result (controller_of self.new) output.new }
+        ensures leaves { gave result (controller_of self.new) output.new
+            ≡ after_record (controller_of self.old) output.old got.now }
+        ensures refused { IfErr result (λ r. r.number ≢ 0) }
     {
         let n = word::word_at(got, 0) as usize;
         if n > limits::LIMIT_BYTES {

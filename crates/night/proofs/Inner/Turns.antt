@@ -1,6 +1,6 @@
 -- A turn by its cases. The proofs of `serve`, `whole` and `play` cite these. Assumes nothing.
 use Prim.Native.Nat.{ℕ, ◌+◌, ◌-◌, ◌/◌, ◌≤◌, ◌<◌}
-use mathlib.Core.Path.{◌≡◌}
+use mathlib.Core.Path.{◌≡◌, ap, ◌∙◌}
 use mathlib.Core.Bool.{Bool, true, false}
 use mathlib.Core.List.{List}
 use native.Mathlib.Omega.{arith}
@@ -11,14 +11,13 @@ use Rattle.word.proofs.Runs.{put-none}
 use Rattle.header.specs.declared.refusal.Refusal.{Refusal}
 use Rattle.header.specs.Limits.{limit_bytes}
 use Rattle.header.specs.Refusal.{refusal}
-use Rattle.header.proofs.Laws.Refusal.{ok_of, err_of}
-use Rattle.std.proofs.Common.{refl, Ok, Err}
-use Rattle.completer.specs.Controller.{Controller, left}
+use Rattle.std.proofs.Common.{Ok, Err}
+use Rattle.completer.specs.Controller.{Controller, After, left}
 use Rattle.completer.specs.Serving.{after}
 use Rattle.completer.specs.Settling.{gave}
-use Rattle.std.specs.Prelude.{◌≢◌, Result, IfErr}
+use Rattle.std.specs.Prelude.{◌≢◌}
 use Rattle.night.specs.Text.{Sent, Refused, Short, line_of, text_of, Wrote}
-use Rattle.night.specs.Night.{record_bytes, length_of, datagram_of, after_record, Serves, turned, whole_turn, turn_of, Left, leaves, left_by}
+use Rattle.night.specs.Night.{record_bytes, length_of, datagram_of, after_record, turned, whole_turn, turn_of, Left, leaves, left_by}
 
 -- the length that a record starts with, over the limit and not
 pub over-limit : (c : Controller) (o got : List ℕ) {n : ℕ} {r : Refusal} → n ≡ get_or (words_of got) 0 0 → limit_bytes < n → r ≡ refusal 2
@@ -40,51 +39,24 @@ wrote-left c more l s {r} {l'} w =
     let e : r ≡ length s = omega (arith, w.ends) in
     rw (e, w.text)
 
--- a whole record served, by what serving it gave
-module _ (c : Controller) (o got : List ℕ) where
-  pub serves-ok : {r : Refusal} {n : ℕ} {c' : Controller} {o' : List ℕ} → left r n c' o' ≡ after_record c o got → r.number ≡ 0
-      → Serves c o got (Ok n) c' o'
-  serves-ok {r} {n} {c'} {o'} e h = record {
-    gives = rw (← e, eq-eqb r.number 0 h);
-    controller_is = rw (← e);
-    output_is = rw (← e);
-  }
-
-  pub serves-err : {r : Refusal} {n : ℕ} {c' : Controller} {o' : List ℕ} → left r n c' o' ≡ after_record c o got → (r.number ≡ 0 → ⊥)
-      → Serves c o got (Err r) c' o'
-  serves-err {r} {n} {c'} {o'} e h = record {
-    gives = rw (← e, ne_eqb r.number 0 h);
-    controller_is = rw (← e);
-    output_is = rw (← e);
-  }
-
-  pub serves-by : (result : Result ℕ Refusal) {c' : Controller} {o' : List ℕ} → gave result c' o' ≡ after_record c o got → IfErr result (λ r. r.number ≢ 0)
-      → Serves c o got result c' o'
-  serves-by (Ok n) e h = serves-ok e refl
-  serves-by (Err r) e h = serves-err e h
-
--- its line
-module _ (c : Controller) (k : ℕ) (got l : List ℕ) {c' : Controller} {r : ℕ} {l' : List ℕ} where
-  whole-left : Wrote l 0 (text_of k (line_of (after_record c (replicate limit_bytes 0) got).refusal ((after_record c (replicate limit_bytes 0) got).sent / 4))) r l'
-      → c' ≡ (after_record c (replicate limit_bytes 0) got).controller → leaves c' true r l' ≡ left_by (whole_turn c k got) l
+-- a whole record's line
+module _ (c : Controller) (k : ℕ) (got l : List ℕ) {r : ℕ} {l' : List ℕ} where
+  whole-left : {a : After} → a ≡ after_record c (replicate limit_bytes 0) got → Wrote l 0 (text_of k (line_of a.refusal (a.sent / 4))) r l'
+      → leaves a.controller true r l' ≡ left_by (whole_turn c k got) l
   unfolding whole_turn
-  whole-left w e = rw e (wrote-left _ true l _ w)
+  whole-left {a} e w =
+      wrote-left a.controller true l _ w
+      ∙ ap (λ (b : After). left_by (turned b.controller (text_of k (line_of b.refusal (b.sent / 4))) true) l) e
 
-  pub ok-left : {n : ℕ} {o' : List ℕ} → Serves c (replicate limit_bytes 0) got (Ok n) c' o' → Wrote l 0 (text_of k (Sent (n / 4))) r l'
+  pub ok-left : {n : ℕ} {c' : Controller} {o' : List ℕ} → gave (Ok n) c' o' ≡ after_record c (replicate limit_bytes 0) got → Wrote l 0 (text_of k (Sent (n / 4))) r l'
       → leaves c' true r l' ≡ left_by (whole_turn c k got) l
   unfolding line_of
-  ok-left {n} {o'} v w =
-      let a = after_record c (replicate limit_bytes 0) got in
-      let t = ok_of a.refusal a.sent v.gives in
-      whole-left (rw (eq-eqb a.refusal.number 0 t.0, ← t.1) w) v.controller_is
+  ok-left {n} {c'} {o'} e w = whole-left e w
 
-  pub err-left : {q : Refusal} {o' : List ℕ} → Serves c (replicate limit_bytes 0) got (Err q) c' o' → Wrote l 0 (text_of k (Refused q)) r l'
+  pub err-left : {q : Refusal} {c' : Controller} {o' : List ℕ} → gave (Err q) c' o' ≡ after_record c (replicate limit_bytes 0) got → q.number ≢ 0 → Wrote l 0 (text_of k (Refused q)) r l'
       → leaves c' true r l' ≡ left_by (whole_turn c k got) l
   unfolding line_of
-  err-left {q} {o'} v w =
-      let a = after_record c (replicate limit_bytes 0) got in
-      let t = err_of a.refusal a.sent v.gives in
-      whole-left (rw (ne_eqb a.refusal.number 0 t.1, ← t.0) w) v.controller_is
+  err-left {q} {c'} {o'} e some w = whole-left e (rw (ne_eqb q.number 0 some) w)
 
 -- nothing, a tail, a whole record
 module _ (c : Controller) (k : ℕ) (got l : List ℕ) where
