@@ -3,9 +3,11 @@ use Prim.Native.Nat.{ℕ, ◌+◌, ◌-◌, ◌≤◌, ◌<◌}
 use mathlib.Core.Path.{◌≡◌, refl, sym, ap, subst, ◌∙◌}
 use mathlib.Core.Bool.{Bool, true, false, cond, false≢true}
 use mathlib.Core.List.{List, [], ◌∷◌, ◌++◌, append_assoc, append-nil}
+use Rattle.std.specs.Prelude.{Option, Some, None}
 use native.Mathlib.Omega.{arith}
 use lib.ListN.{length, get_or, length-append, length-take}
 use Rattle.word.specs.Words.{words_of, Bytes}
+use Rattle.word.proofs.Runs.{length-words}
 use Rattle.header.specs.declared.Kind.{Kind}
 use Rattle.header.specs.declared.Kind.TheVariants.{Nop, Write, Read, Response}
 use Rattle.header.specs.Limits.{limit}
@@ -20,11 +22,11 @@ use Rattle.memory.specs.Moves.{fails, moves_of, moves, after_moves, memory_after
 use Rattle.memory.proofs.Laws.Moving.{after-append, length-after}
 use Rattle.memory.proofs.Laws.Promises.{moves-none, moves_more, memory-by}
 use Rattle.carrying.specs.declared.carry.Task.{Task}
-use Rattle.carrying.specs.declared.carry.Place.{Place}
+use Rattle.carrying.specs.declared.putting.Answer.{Answer}
 use Rattle.carrying.specs.Answers.{ok_words, done, failed, answer_of, answers, answer_to, words_to}
-use Rattle.carrying.specs.Putting.{Puts, Room}
-use Rattle.carrying.specs.Carry.{command_at, Here, CarriesOne, CarriesAt, Carries}
-use Rattle.carrying.proofs.Laws.Putting.{puts_none, puts-more}
+use Rattle.carrying.specs.Putting.{Puts, Room, Adds}
+use Rattle.carrying.specs.Carry.{goes_to, stops, command_at, Here, CarriesOne, CarriesHere, Carries}
+use Rattle.carrying.proofs.Laws.Putting.{puts_none, puts-more, length-kept}
 
 -- a command more of the list: where the message stops there, and where it goes on
 module _ (kind : Kind) (mark byte : ℕ) (m : List ℕ) (c : Command) where
@@ -67,35 +69,38 @@ pub record Tasked (t : Task) (r : Request) : Type 0 where
   pub answer : t.answer ≡ answer_byte t.byte0
   pub small : t.answer < 256
 
--- the commands `rest` are left, the words `before` of the answer are there
-pub record Underway (t : Task) (r : Request) (ws m₀ s₀ o₀ m s o : List ℕ) (at n : ℕ) : Type 0 where
+-- the commands `rest` are left, the words `before` of the answer are there, in the buffers that are lent
+pub record Underway (t : Task) (r : Request) (m₀ : List ℕ) (a₀ : Answer) (m : List ℕ) (a : Answer) (at : ℕ) : Type 0 where
   pub tasked : Tasked t r
-  pub room : Room s₀ o₀
+  pub room : Room a₀.stored.now a₀.output.now
   pub rest : List Command
   pub more : none rest ≡ false
-  pub stands : Stands t.byte0 ws at rest
-  pub within : n + replies t.byte0 rest ≤ limit
+  pub stands : Stands t.byte0 (words_of t.datagram.now) at rest
+  pub within : a.words + replies t.byte0 rest ≤ limit
   pub before : List ℕ
-  pub counted : length before ≡ n
-  pub puts : Puts t.keep 0 before s₀ o₀ s o
+  pub counted : length before ≡ a.words
+  pub keep : a.keep ≡ a₀.keep
+  pub puts : Puts a₀.keep 0 before a₀.stored.now a₀.output.now a.stored.now a.output.now
   pub memory : after_moves m (moves t.kind (length m) rest) ≡ memory_after r m₀
   pub whole : before ++ answer_words t.answer (answers t.kind t.mark m rest) ≡ words_to r t.mark m₀
 
-pub starts : {t : Task} (r : Request) (dg m s o : List ℕ) → Tasked t r → Room s o → Bytes dg → read dg ≡ Means r → Underway t r (words_of dg) m s o m s o 0 0
+pub starts : {t : Task} (r : Request) (m : List ℕ) (a : Answer) → Tasked t r → Room a.stored.now a.output.now → a.words ≡ 0 → Bytes t.datagram.now → read t.datagram.now ≡ Means r
+    → Underway t r m a m a 0
 unfolding words_to answer_to
-starts {t} r dg m s o k h b e =
-    let f = (written_read dg r b e).0 in
+starts {t} r m a k h z b e =
+    let f = (written_read t.datagram.now r b e).0 in
     let q : t.kind ≡ kind_of r.byte0 = k.kind ∙ rw k.byte0 in
     record {
       tasked = k;
       room = h;
       rest = r.commands;
       more = f.asked.some;
-      stands = rw k.byte0 (stands-starts dg r b e);
-      within = rw k.byte0 (omega (arith, f.answer));
+      stands = rw k.byte0 (stands-starts t.datagram.now r b e);
+      within = rw (k.byte0, z) (omega (arith, f.answer));
       before = [];
-      counted = refl;
-      puts = puts_none t.keep 0 s o;
+      counted = sym z;
+      keep = refl;
+      puts = puts_none a.keep 0 a.stored.now a.output.now;
       memory = rw (memory-by r m, q);
       whole = rw (k.answer, k.byte0, q);
     }
@@ -134,56 +139,75 @@ turn_at byte0 ws at (c ∷ cs) e s = record { c = c; cs = cs; is = refl; next = 
 command-is : {byte0 : ℕ} {ws : List ℕ} {at : ℕ} {c : Command} {cs : List Command} → Next byte0 ws at c cs → command_at byte0 ws at ≡ c
 command-is x = rw (x.byte1, x.count, x.address, x.payload)
 
-module _ {t : Task} {r : Request} {ws m₀ s₀ o₀ m s o : List ℕ} {at n : ℕ} (g : Underway t r ws m₀ s₀ o₀ m s o at n) where
+-- where the message stops, and where it goes on
+goes-none : (b : Bool) (next : ℕ) → goes_to b next ≡ None → b ≡ true
+goes-none true next e = refl
+goes-none false next e = cc
+
+goes-some : (b : Bool) (next k : ℕ) → goes_to b next ≡ Some k → (b ≡ false) × (k ≡ next)
+goes-some true next k e = cc
+goes-some false next k e = (refl, cc)
+
+module _ {t : Task} {r : Request} {m₀ m : List ℕ} {a₀ a : Answer} {at : ℕ} (g : Underway t r m₀ a₀ m a at) where
+  abbrev ws : List ℕ
+  ws = words_of t.datagram.now
+
   turn : Turn t.byte0 ws at g.rest
   turn = turn_at t.byte0 ws at g.rest g.more g.stands
 
-  left : n + (1 + reply_words (kind_of t.byte0) turn.c.count + replies t.byte0 turn.cs) ≤ limit
+  left : a.words + (1 + reply_words (kind_of t.byte0) turn.c.count + replies t.byte0 turn.cs) ≤ limit
   left = rw (← replies-more t.byte0 turn.c turn.cs, ← turn.is) g.within
 
-  pub here-at : Here t ws at n
+  pub here-at : Here t at a
   here-at =
       let x = turn.next in
+      let few : length g.before ≤ limit = omega (arith, left, g.counted) in
+      let s = length-kept a₀.keep a₀.stored.now 0 g.before (omega (arith, g.room.stored)) in
+      let o = length-words a₀.output.now 0 g.before (omega (arith, g.room.output)) in
       record {
         kind = g.tasked.kind;
         byte = g.tasked.small;
         counted = rw x.count x.fits.counted;
         inside = rw x.count x.inside;
         room = rw x.count (omega (arith, left));
+        buffers = record { stored = rw g.puts.stored (omega (arith, s, g.room.stored)); output = rw g.puts.output (omega (arith, o, g.room.output)) };
       }
 
   -- the command that was carried out
-  abbrev now-done : Place → List ℕ → List ℕ → List ℕ → Type 0
-  now-done d m' s' o' = CarriesOne t turn.c (none turn.cs) (at + 1 + body_words t.byte0 turn.c.count) n m s o d m' s' o'
+  abbrev now-done : Option ℕ → List ℕ → Answer → Type 0
+  now-done on m' b = CarriesOne t turn.c (none turn.cs) (at + 1 + body_words t.byte0 turn.c.count) m a on m' b
 
-  module _ {d : Place} {m' s' o' : List ℕ} (x : CarriesAt t ws at n m s o d m' s' o') where
-    did : now-done d m' s' o'
+  module _ {on : Option ℕ} {m' : List ℕ} {b : Answer} (x : CarriesHere t at m a on m' b) where
+    did : now-done on m' b
     did =
         let y = turn.next in
-        let z = subst (λ (k : Command). CarriesOne t k (last_of (get_or ws at 0)) (at + 1 + body_words t.byte0 (count_of (get_or ws at 0))) n m s o d m' s' o') (command-is y) x in
+        let z = subst (λ (k : Command). CarriesOne t k (last_of (get_or ws at 0)) (at + 1 + body_words t.byte0 (count_of (get_or ws at 0))) m a on m' b) (command-is y) x in
         rw (y.last, y.count) at z
 
-    abbrev a : Answered
-    a = answer_of t.kind t.mark m turn.c
+    abbrev own : Answered
+    own = answer_of t.kind t.mark m turn.c
+
+    abbrev stop : Bool
+    stop = stops t turn.c (none turn.cs) m
 
     abbrev F : List ℕ
-    F = answered_words t.answer d.stop a
+    F = answered_words t.answer stop own
 
-    F-long : length F ≡ 1 + length a.payload
-    F-long = rw (answered-is t.answer d.stop a) (omega arith)
+    F-long : length F ≡ 1 + length own.payload
+    F-long = rw (answered-is t.answer stop own) (omega arith)
 
-    a-short : length a.payload ≤ reply_words (kind_of t.byte0) turn.c.count
-    a-short = rw (← g.tasked.kind) (payload-le t.kind t.mark m turn.c)
+    own-short : length own.payload ≤ reply_words (kind_of t.byte0) turn.c.count
+    own-short = rw (← g.tasked.kind) (payload-le t.kind t.mark m turn.c)
 
-    counted : length (g.before ++ F) ≡ d.words
-    counted = simp length-append (omega (arith, F-long, did.words, g.counted))
+    counted : length (g.before ++ F) ≡ b.words
+    counted = simp length-append (omega (arith, did.adds.words, g.counted))
 
-    put : Puts t.keep 0 (g.before ++ F) s₀ o₀ s' o'
-    put = puts-more g.puts did.puts (omega (arith, g.counted)) (omega (arith, F-long, a-short, left, g.counted, g.room.stored))
-        (omega (arith, F-long, a-short, left, g.counted, g.room.output))
+    put : Puts a₀.keep 0 (g.before ++ F) a₀.stored.now a₀.output.now b.stored.now b.output.now
+    put = puts-more g.puts (subst (λ (k : Bool). Puts k a.words F a.stored.now a.output.now b.stored.now b.output.now) g.keep did.adds.puts) (omega (arith, g.counted)) (omega (arith, F-long, own-short, left, g.counted, g.room.stored))
+        (omega (arith, F-long, own-short, left, g.counted, g.room.output))
 
-    pub short : d.words ≤ limit
-    short = omega (arith, did.words, a-short, left)
+    pub short : b.words ≤ limit
+    short = omega (arith, did.adds.words, F-long, own-short, left)
 
     memory : after_moves m (moves t.kind (length m) (turn.c ∷ turn.cs)) ≡ memory_after r m₀
     memory = rw (← turn.is) g.memory
@@ -191,15 +215,17 @@ module _ {t : Task} {r : Request} {ws m₀ s₀ o₀ m s o : List ℕ} {at n : �
     whole : g.before ++ answer_words t.answer (answers t.kind t.mark m (turn.c ∷ turn.cs)) ≡ words_to r t.mark m₀
     whole = rw (← turn.is) g.whole
 
-    pub ends : d.stop ≡ true → Carries r t.mark t.keep m₀ s₀ o₀ d.words m' s' o'
+    pub ends : on ≡ None → Carries r t.mark a₀.keep m₀ a₀.stored.now a₀.output.now b.words m' b.stored.now b.output.now
     ends e =
-        let p = stops-here t.kind t.mark t.answer m turn.c turn.cs (sym did.stop ∙ e) in
-        let w : g.before ++ F ≡ words_to r t.mark m₀ = ap (λ (l : List ℕ). g.before ++ l) (ap (λ (b : Bool). answered_words t.answer b a) e ∙ p.1) ∙ whole in
+        let z = goes-none stop _ (sym did.goes ∙ e) in
+        let p = stops-here t.kind t.mark t.answer m turn.c turn.cs z in
+        let w : g.before ++ F ≡ words_to r t.mark m₀ = ap (λ (l : List ℕ). g.before ++ l) (ap (λ (v : Bool). answered_words t.answer v own) z ∙ p.1) ∙ whole in
         record { words = sym counted ∙ ap length w; memory = did.memory ∙ p.0 ∙ memory; puts = rw (← w) put }
 
-    pub goes : d.stop ≡ false → Underway t r ws m₀ s₀ o₀ m' s' o' d.next d.words
-    goes e =
-        let q = either-off (fails t.kind (length m) turn.c) (none turn.cs) (sym did.stop ∙ e) in
+    pub goes : (next : ℕ) → on ≡ Some next → Underway t r m₀ a₀ m' b next
+    goes next e =
+        let z = goes-some stop _ next (sym did.goes ∙ e) in
+        let q = either-off (fails t.kind (length m) turn.c) (none turn.cs) z.0 in
         let p = goes_on t.kind t.mark t.answer m turn.c turn.cs q.1 q.0 in
         let m'-is : m' ≡ after_moves m (moves_of t.kind turn.c) = did.memory ∙ rw q.0 in
         record {
@@ -207,17 +233,22 @@ module _ {t : Task} {r : Request} {ws m₀ s₀ o₀ m s o : List ℕ} {at n : �
           room = g.room;
           rest = turn.cs;
           more = q.1;
-          stands = rw (did.next e) turn.next.on;
-          within = omega (arith, did.words, a-short, left);
+          stands = rw z.1 turn.next.on;
+          within = omega (arith, did.adds.words, F-long, own-short, left);
           before = g.before ++ F;
           counted = counted;
+          keep = did.adds.keep ∙ g.keep;
           puts = put;
           memory = rw m'-is (p.0 ∙ memory);
           whole =
               append_assoc g.before F _
-              ∙ rw m'-is (ap (λ (b : Bool). g.before ++ (answered_words t.answer b a ++ answer_words t.answer (answers t.kind t.mark (after_moves m (moves_of t.kind turn.c)) turn.cs))) e)
+              ∙ rw m'-is (ap (λ (v : Bool). g.before ++ (answered_words t.answer v own ++ answer_words t.answer (answers t.kind t.mark (after_moves m (moves_of t.kind turn.c)) turn.cs))) z.0)
               ∙ ap (λ (l : List ℕ). g.before ++ l) p.1 ∙ whole;
         }
 
-    pub nearer : d.stop ≡ false → length ws - d.next < length ws - at
-    nearer e = omega (arith, did.next e, turn.next.here)
+    pub nearer : (next : ℕ) → on ≡ Some next → length ws - next < length ws - at
+    nearer next e = let z = goes-some stop _ next (sym did.goes ∙ e) in omega (arith, z.1, turn.next.here)
+
+-- the same of the buffers that were lent to the answer
+pub carried : {r : Request} {mark : ℕ} {keep : Bool} {m s o : List ℕ} {n : ℕ} {m' s' o' s'' o'' : List ℕ} → Carries r mark keep m s o n m' s' o' → s'' ≡ s' → o'' ≡ o' → Carries r mark keep m s o n m' s'' o''
+carried x e f = rw (e, f) x

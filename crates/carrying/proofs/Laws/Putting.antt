@@ -5,10 +5,11 @@ use mathlib.Core.Path.{◌≡◌, refl, sym, ◌∙◌}
 use mathlib.Core.Bool.{Bool, true, false, cond}
 use mathlib.Core.List.{List, [], ◌∷◌, ◌++◌}
 use native.Mathlib.Omega.{arith}
-use lib.ListN.{length, get_or, set}
+use lib.ListN.{length, get_or, set, length-append}
 use Rattle.word.specs.Words.{put}
-use Rattle.word.proofs.Runs.{put-none, put_one, put-put, words-none, words-words, length-put}
-use Rattle.carrying.specs.Putting.{kept_in, Puts}
+use Rattle.word.proofs.Runs.{put-none, put_one, put-put, words-none, words-words, length-put, length-words}
+use Rattle.carrying.specs.declared.putting.Answer.{Answer}
+use Rattle.carrying.specs.Putting.{kept_in, Puts, Adds, RoomFor}
 
 module _ (keep : Bool) (s : List ℕ) (n : ℕ) where
   pub kept_off : (ws : List ℕ) → keep ≡ false → s ≡ kept_in keep s n ws
@@ -56,6 +57,26 @@ puts-more {keep} {n} {k} {ws} {vs} {s} {o} p q e hs ho =
     record {
       stored = q.stored ∙ rw (p.stored, e) (kept-kept keep s n ws vs hs);
       output = q.output ∙ rw (p.output, e) (words-words o n ws vs ho);
+    }
+
+-- an answer that grows keeps its buffers' lengths, and so the room for what comes behind
+pub adds-room : {ws : List ℕ} {a b : Answer} (n : ℕ) → Adds ws a b → RoomFor (length ws + n) a → RoomFor n b
+adds-room {ws} {a} n x r =
+    let s = length-kept a.keep a.stored.now a.words ws (omega arith) in
+    let o = length-words a.output.now a.words ws (omega arith) in
+    record { few = omega arith; stored = rw x.puts.stored (omega (arith, s)); output = rw x.puts.output (omega (arith, o)) }
+
+pub adds_none : (a : Answer) → Adds [] a a
+adds_none a = record { stored = refl; output = refl; keep = refl; words = omega arith; puts = puts_none a.keep a.words a.stored.now a.output.now }
+
+pub adds-more : {ws vs : List ℕ} {a b c : Answer} → Adds ws a b → Adds vs b c → RoomFor (length ws + length vs) a → Adds (ws ++ vs) a c
+adds-more {ws} {vs} {a} x y r =
+    record {
+      stored = y.stored ∙ x.stored;
+      output = y.output ∙ x.output;
+      keep = y.keep ∙ x.keep;
+      words = rw (length-append ws vs) (omega arith);
+      puts = puts-more x.puts (rw x.keep at y.puts) x.words (omega arith) (omega arith);
     }
 
 -- a run of one word is its first word

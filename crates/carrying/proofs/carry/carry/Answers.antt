@@ -1,36 +1,40 @@
--- `carrying::carry::carry` meets its contract. The loop's invariant: the message is under way, and no buffer changes its length. Assumes nothing.
-use mathlib.Core.Path.{refl}
+-- `carrying::carry::carry` meets its contract. The loop's invariant: the message is under way, in the buffers that are lent. Assumes nothing.
+use mathlib.Core.Path.{refl, sym, ◌∙◌}
+use Rattle.std.proofs.Common.{rules}
 use native.Mathlib.Omega.{arith}
 use Rattle.word.proofs.Runs.{below_all}
 use Rattle.message.specs.Walk.{request_of}
-use Rattle.carrying.proofs.Inner.Underway.{starts, here-at, ends, short, goes, nearer}
+use Rattle.carrying.proofs.Inner.Underway.{starts, here-at, ends, carried, short, goes, nearer}
 use Rattle.carrying.proofs.carry.carry.Goals as goal
 
-pub loop-task-init : goal.loop-task-init
-loop-task-init c =
+pub loop-next-init : goal.loop-next-init
+loop-next-init c =
     let dg = c.args.datagram.now in
     let b = c.answer_byte.ensures in (
-      starts (request_of dg) dg c.args.memory.now c.args.stored.now c.args.output.now
-          (record { byte0 = c.requires.1; kind = c.kind_of.ensures; answer = b.value; small = b.below }) c.requires.2
+      starts (request_of dg) c.args.memory.now _
+          (record { byte0 = c.requires.1; kind = c.kind_of.ensures; answer = b.value; small = b.below }) c.requires.2 refl
           (below_all 256 dg (λ i. omega (arith, c.type_inv.datagram i))) c.requires.0,
       refl,
       refl,
       refl,
     )
 
-pub carry_one-done-requires : goal.carry_one-done-requires
-carry_one-done-requires c =
-    let l = c.loop-task.invariant in
-    record { here = here-at l.0; room = record { stored = omega (arith, l.2, l.0.room.stored); output = omega (arith, l.3, l.0.room.output) } }
+pub carry_one-requires : goal.carry_one-requires
+carry_one-requires c = here-at c.loop-next.invariant.0
 
-pub returns-then-done : goal.returns-then-done
-returns-then-done c = record { carries = ends c.loop-task.invariant.0 c.carry_one-done.ensures c.if-done.true; within = short c.loop-task.invariant.0 c.carry_one-done.ensures }
+pub loop-next-smaller : goal.loop-next-smaller
+loop-next-smaller c = nearer c.loop-next.invariant.0 c.carry_one.ensures _ c.in-Some.is
 
-pub loop-task-smaller : goal.loop-task-smaller
-loop-task-smaller c = nearer c.loop-task.invariant.0 c.carry_one-done.ensures c.if-done.false
+pub loop-next-preserved : goal.loop-next-preserved
+loop-next-preserved c =
+    let l = c.loop-next.invariant in
+    let b = c.carry_one.ensures.adds in
+    (goes l.0 c.carry_one.ensures _ c.in-Some.is, b.stored ∙ l.1, b.output ∙ l.2, omega (arith, c.carry_one.auto.memory, l.3))
 
-pub loop-task-preserved : goal.loop-task-preserved
-loop-task-preserved c =
-    let call = c.carry_one-done in
-    let l = c.loop-task.invariant in
-    (goes l.0 call.ensures c.if-done.false, omega (arith, call.auto.memory, l.1), omega (arith, call.auto.stored, l.2), omega (arith, call.auto.output, l.3))
+pub returns : goal.returns
+returns c =
+    let l = c.loop-next.invariant in
+    let b = c.carry_one.ensures.adds in
+    let stored = sym (b.stored ∙ l.1) in
+    let output = sym (b.output ∙ l.2) in
+    record { carries = carried (ends l.0 c.carry_one.ensures c.in_default.is) (search (rules, stored)) (search (rules, output)); within = short l.0 c.carry_one.ensures }

@@ -1,4 +1,4 @@
--- `carrying::carry::carry` meets its contract. The loop's invariant: the message is under way, and no buffer changes its length. Assumes nothing.
+-- `carrying::carry::carry` meets its contract. The loop's invariant: the message is under way, in the buffers that are lent. Assumes nothing.
 use Prim.Native.Nat.{◌-◌}
 use mathlib.Core.Path.{◌≡◌}
 use lib.ListN.{length}
@@ -7,10 +7,11 @@ use Rattle.message.specs.Walk.{request_of}
 use Rattle.carrying.proofs.Inner.Underway.{Underway}
 use Rattle.carrying.proofs.carry.carry.Given as goal
 
-abbrev pub invariant-loop-task : goal.invariant-loop-task
-invariant-loop-task l =
-    Underway l.task (request_of l.datagram) (words_of l.datagram) l.initial.memory l.initial.stored l.initial.output l.memory l.stored l.output l.at l.n
-    × (length l.memory ≡ length l.initial.memory) × (length l.stored ≡ length l.initial.stored) × (length l.output ≡ length l.initial.output)
+abbrev pub invariant-loop-next : goal.invariant-loop-next
+invariant-loop-next l =
+    Underway l.task (request_of l.datagram) l.initial.memory l.initial.answer l.memory l.answer l.at
+    × (l.answer.stored.ghost_name ≡ l.initial.answer.stored.ghost_name) × (l.answer.output.ghost_name ≡ l.initial.answer.output.ghost_name)
+    × (length l.memory ≡ length l.initial.memory)
 
-abbrev pub decreases-loop-task : goal.decreases-loop-task
-decreases-loop-task l = length (words_of l.datagram) - l.at
+abbrev pub decreases-loop-next : goal.decreases-loop-next
+decreases-loop-next l = length (words_of l.datagram) - l.at

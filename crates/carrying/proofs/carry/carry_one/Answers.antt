@@ -7,4 +7,4 @@ pub returns-in-Nop : goal.returns-in-Nop
 returns-in-Nop c = c.carry_nop.ensures c.args.memory.now
 
 pub returns-in-Response : goal.returns-in-Response
-returns-in-Response c = absurd (fitting c.args.datagram.now c.requires.here c.in-Response.is refl).counted
+returns-in-Response c = absurd (fitting c.requires c.in-Response.is refl).counted
