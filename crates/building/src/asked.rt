@@ -5,7 +5,7 @@ ghost use Rattle.header.specs.Refusal.{refusal, as_result};
 ghost use Rattle.building.specs.Asked.{count_by, byte1_by, address_sent, count_fits, fields_ok, enables_fit};
 ghost use Rattle.building.specs.Asked.{narrow_ok, address_fits, size_by, reply_by, room_fits, command_fault};
 
-use header::refusal::Refusal;
+use header::refusal::{Refusal, check};
 use header::{Kind, limits};
 use message::faults;
 
@@ -142,19 +142,14 @@ pub(crate) fn command_fault(
 {
     let kind = header::kind_of(byte0);
     let wide = header::wide(byte0);
-    if !count_fits(kind, count) {
-        return Err(Refusal::of(Refusal::ADDED_COUNT));
-    }
-    if !enables_fit(kind, count, asked) {
-        return Err(Refusal::of(Refusal::ADDED_ENABLES));
-    }
-    if !address_fits(kind, wide, asked.address) {
-        return Err(Refusal::of(Refusal::ADDED_ADDRESS));
-    }
-    if !room_fits(byte0, words, answer, count) {
-        return Err(Refusal::of(Refusal::NO_ROOM));
-    }
-    Ok(())
+    check(count_fits(kind, count), Refusal::ADDED_COUNT, 0)?;
+    check(enables_fit(kind, count, asked), Refusal::ADDED_ENABLES, 0)?;
+    check(
+        address_fits(kind, wide, asked.address),
+        Refusal::ADDED_ADDRESS,
+        0,
+    )?;
+    check(room_fits(byte0, words, answer, count), Refusal::NO_ROOM, 0)
 }
 
 // The header of a command that others may follow.

@@ -17,7 +17,7 @@ use crate::asked::Asked;
 use crate::record::Building;
 use crate::{asked, record};
 use header::limits;
-use header::refusal::Refusal;
+use header::refusal::{Refusal, check};
 use message::address;
 
 // Begins a message in the lent output, of which it changes no byte.
@@ -31,9 +31,11 @@ pub fn begin(
 ) -> Result<Building, Refusal>
     ensures { result ≡ built_of (begun (length out.now) kind tag wide discovery) }
 {
-    if out.len() < limits::LIMIT_BYTES || !record::start_ok(kind, tag) {
-        return Err(Refusal::of(Refusal::BUILDING));
-    }
+    check(
+        limits::LIMIT_BYTES <= out.len() && record::start_ok(kind, tag),
+        Refusal::BUILDING,
+        0,
+    )?;
     Ok(Building {
         kind,
         tag,
@@ -59,12 +61,8 @@ impl Building {
     fn add_fault(self, room: usize, asked: Asked, lent: usize) -> Result<(), Refusal>
         ensures { result ≡ as_result (refusal (add_fault room self asked lent)) }
     {
-        if !self.usable(room) {
-            return Err(Refusal::of(Refusal::BUILDING));
-        }
-        if self.closed {
-            return Err(Refusal::of(Refusal::CLOSING));
-        }
+        check(self.usable(room), Refusal::BUILDING, 0)?;
+        check(!self.closed, Refusal::CLOSING, 0)?;
         let byte0 = self.byte0();
         let count = asked::count_by(header::kind_of(byte0), asked.count, lent);
         asked::command_fault(byte0, self.words, self.answer, asked, count)
@@ -75,13 +73,8 @@ impl Building {
     fn close_fault(self, room: usize) -> Result<(), Refusal>
         ensures { result ≡ as_result (refusal (close_fault room self)) }
     {
-        if !self.usable(room) {
-            return Err(Refusal::of(Refusal::BUILDING));
-        }
-        if self.closed || self.words == 0 {
-            return Err(Refusal::of(Refusal::CLOSING));
-        }
-        Ok(())
+        check(self.usable(room), Refusal::BUILDING, 0)?;
+        check(!self.closed && self.words != 0, Refusal::CLOSING, 0)
     }
 }
 

@@ -10,7 +10,7 @@ ghost use Rattle.word.specs.Words.{Words};
 ghost use Rattle.header.specs.Refusal.{refusal, as_result};
 ghost use Rattle.layout.specs.Layout.{set_up_fault, row_of};
 
-use header::refusal::Refusal;
+use header::refusal::{Refusal, check};
 
 pub mod writing;
 
@@ -41,10 +41,12 @@ const TOP: u64 = 4294967296;
 pub fn set_up(start: u64, room: u64) -> Result<(), Refusal>
     ensures { result ≡ as_result (refusal (set_up_fault start room)) }
 {
-    if room < TABLE || start % 4 != 0 || TOP / 4 < room || TOP - 4 * room < start {
-        return Err(Refusal::of(Refusal::SET_UP));
-    }
-    Ok(())
+    let ends_well = room <= TOP / 4 && start <= TOP - 4 * room;
+    check(
+        TABLE <= room && start % 4 == 0 && ends_well,
+        Refusal::SET_UP,
+        0,
+    )
 }
 
 // Row i, counted from 0: its number, then its seven words.
