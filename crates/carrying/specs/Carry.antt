@@ -1,6 +1,6 @@
 -- What the code of carrying out goes by: one command, and at the end a whole message. Only `Carries` is cited above
 -- this crate; nobody needs to read the rest. Assumes nothing.
-use Rattle.std.specs.Prelude.{ℕ, ◌+◌, ◌<◌, ◌≤◌, ◌≡◌, Bool, true, false, cond, List, [], ◌∷◌, length, get_or, take, drop, Option, Some, None}
+use Rattle.std.specs.Prelude.{ℕ, ◌+◌, ◌<◌, ◌≤◌, ◌≡◌, Bool, true, cond, List, [], length, get_or, take, drop, Option, Some, None}
 use Rattle.word.specs.Words.{words_of}
 use Rattle.header.specs.Limits.{limit}
 use Rattle.header.specs.Header.{kind_of, byte1_of, count_of, last_of, address_words, data_words, body_words}

@@ -1,5 +1,5 @@
--- What the calls inside `serve` go by: what a call gives, the record that follows `dispatch`, and what nobody else needs
--- to read. Assumes nothing.
+-- What the calls inside `serve` go by: what a call gives, the record that follows `dispatch`, and what nobody else
+-- needs to read. Assumes nothing.
 use Rattle.std.specs.Prelude.{ℕ, ◌*◌, ◌≡◌, Bool, true, false, List, Result, Ok, Err, Option, Some, None}
 use Rattle.word.specs.Words.{put, put_words}
 use Rattle.header.specs.declared.refusal.Refusal.{Refusal}
@@ -7,7 +7,6 @@ use Rattle.header.specs.Limits.{limit_bytes}
 use Rattle.header.specs.Refusal.{refusal}
 use Rattle.tags.specs.declared.record.TagRecord.{TagRecord}
 use Rattle.tags.specs.Record.{words_at, record_by}
-use Rattle.tags.specs.Rule.{Ruling}
 use Rattle.completer.specs.declared.serving.Done.{Done}
 use Rattle.completer.specs.declared.serving.Kept.{Kept}
 use Rattle.completer.specs.Controller.{Controller, answer_in, After, left}

@@ -137,7 +137,15 @@ pub fn dispatch(
     Ok(match verdict {
         Verdict::Repeat(tag) => again(stored, output, tags, tag),
         // One call for both, so that what it does stands once in the library.
-        _ => act(memory, stored, kept, output, tags, datagram, matches!(verdict, Verdict::New)),
+        _ => act(
+            memory,
+            stored,
+            kept,
+            output,
+            tags,
+            datagram,
+            matches!(verdict, Verdict::New),
+        ),
     })
 }
 

@@ -1,10 +1,10 @@
 -- One command: what is known where it stands, and what each way of carrying it out comes to. The proofs of `carrying` cite these.
 -- Assumes nothing.
 use Prim.Native.Nat.{ℕ, ◌+◌, ◌*◌, ◌/◌, ◌≤◌}
-use mathlib.Core.Path.{◌≡◌, refl, sym, ap, ◌∙◌}
+use mathlib.Core.Path.{◌≡◌, sym, ap, ◌∙◌}
 use mathlib.Core.Bool.{Bool, true, false, false≢true}
 use mathlib.Core.List.{List, [], ◌∷◌}
-use Rattle.std.specs.Prelude.{Option, Some, None}
+use Rattle.std.specs.Prelude.{Option, None}
 use native.Mathlib.Omega.{arith}
 use borrow.Author.Tests.{leb-true}
 use lib.ListN.{length, get_or, take, drop, length-drop}
@@ -25,7 +25,7 @@ use Rattle.memory.proofs.Laws.Moving.{within, command-quiet, after_none}
 use Rattle.carrying.specs.declared.carry.Task.{Task}
 use Rattle.carrying.specs.declared.putting.Answer.{Answer}
 use Rattle.carrying.specs.Answers.{advertisement, ok_words, answer_of}
-use Rattle.carrying.specs.Putting.{Room, Adds, RoomFor}
+use Rattle.carrying.specs.Putting.{Adds, RoomFor}
 use Rattle.carrying.specs.Carry.{goes_to, command_at, Here, CarriesOne, CarriesHere}
 use Rattle.carrying.proofs.Laws.Putting.{adds-more}
 

@@ -24,7 +24,7 @@ use Rattle.memory.proofs.Laws.Promises.{moves-none, moves_more, memory-by}
 use Rattle.carrying.specs.declared.carry.Task.{Task}
 use Rattle.carrying.specs.declared.putting.Answer.{Answer}
 use Rattle.carrying.specs.Answers.{ok_words, done, failed, answer_of, answers, answer_to, words_to}
-use Rattle.carrying.specs.Putting.{Puts, Room, Adds}
+use Rattle.carrying.specs.Putting.{Puts, Room}
 use Rattle.carrying.specs.Carry.{goes_to, stops, command_at, Here, CarriesOne, CarriesHere, Carries}
 use Rattle.carrying.proofs.Laws.Putting.{puts_none, puts-more, length-kept}
 

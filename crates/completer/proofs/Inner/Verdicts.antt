@@ -10,8 +10,7 @@ use borrow.Author.Tests.{leb-true}
 use lib.Dec.{ltb, leb}
 use lib.ListN.{length, take, drop, length-drop, take-append-drop}
 use lib.Seq.{take-length, length-take-le}
-use Rattle.word.specs.Words.{put, put_words}
-use Rattle.word.proofs.Runs.{words-none}
+use Rattle.word.specs.Words.{put}
 use Rattle.word.proofs.Parts.{part-put}
 use Rattle.header.specs.declared.refusal.Refusal.{Refusal}
 use Rattle.header.specs.Limits.{limit, limit_bytes}
@@ -24,14 +23,14 @@ use Rattle.carrying.specs.Answers.{words_to}
 use Rattle.carrying.specs.Carry.{Carries}
 use Rattle.carrying.proofs.Laws.Putting.{kept_on, kept_off}
 use Rattle.tags.specs.declared.record.TagRecord.{TagRecord}
-use Rattle.std.specs.Prelude.{Result, Ok, Err, Option, Some, None}
+use Rattle.std.specs.Prelude.{Ok, Err, Option}
 use Rattle.std.specs.Bool.{then_some}
 use Rattle.tags.specs.declared.rule.Verdict.{Verdict}
 use Rattle.tags.specs.declared.rule.Verdict.TheVariants.{New, Repeat, Discovery}
 use Rattle.tags.specs.Record.{places, place_of, mark_of, most_memory, words_at, request_at, record_ok, kept_ok, record_by}
 use Rattle.tags.specs.Rule.{Ruling, rule_of}
 use Rattle.tags.proofs.Laws.Record.{Lengths, Again, held-lengths, kept-room, rule-again}
-use Rattle.completer.specs.Controller.{Controller, lent, request_in, After, left}
+use Rattle.completer.specs.Controller.{Controller, lent, request_in, After}
 use Rattle.completer.specs.Verdict.{lent_ok, judged, as_kept, held_to, verdict_by, verdict_of}
 use Rattle.completer.specs.Serving.{answer_by, after_by, after}
 use Rattle.completer.specs.declared.serving.Done.{Done}

@@ -1,6 +1,6 @@
 -- What an allowed record is like, which tags it holds, and what it holds after a message. The proofs of the controller's call cite these. Assumes nothing.
 use Prim.Native.Nat.{ℕ, zero, suc, ◌+◌, ◌-◌, ◌*◌, ◌%◌, ◌≤◌, ◌<◌}
-use mathlib.Core.Path.{◌≡◌, refl, sym, ap, ◌∙◌}
+use mathlib.Core.Path.{◌≡◌, refl, sym, ◌∙◌}
 use mathlib.Core.Bool.{Bool, true, false, cond, ◌&&◌, ◌||◌, false≢true}
 use native.Mathlib.Omega.{arith}
 use borrow.Author.Tests.{ltb-true, ltb-false, leb-true, leb-false, eqb-true, le-ltb, lt-ltb, le-leb, lt-leb}
@@ -12,7 +12,7 @@ use Rattle.header.specs.Header.{tag_of, discovery_of, next_tag}
 use Rattle.header.specs.Refusal.{refusal}
 use Rattle.tags.specs.declared.record.TagRecord.{TagRecord}
 use Rattle.tags.specs.declared.rule.Verdict.TheVariants.{New, Repeat, Discovery}
-use Rattle.std.specs.Prelude.{Result, Ok, Err}
+use Rattle.std.specs.Prelude.{Ok, Err}
 use Rattle.tags.specs.Rule.{Ruling, expected, rule_of}
 use Rattle.tags.specs.Record.{places, place_of, is_fresh, mark_of, back, holds, words_at, request_at, words_ok, place_ok, lengths_ok, places_ok, held_ok, record_ok, kept_ok}
 

@@ -1,6 +1,6 @@
 -- `carrying::carry::carry_nop` meets its contract: a header and the words of the advertisement. Assumes nothing.
 use Prim.Native.Nat.{◌+◌, ◌≤◌}
-use mathlib.Core.Path.{refl, sym, ap, ◌∙◌}
+use mathlib.Core.Path.{refl, ap, ◌∙◌}
 use native.Mathlib.Omega.{arith}
 use Rattle.header.specs.Limits.{limit}
 use Rattle.header.specs.Header.{count_of, last_of}

@@ -41,7 +41,7 @@ pub returns-after-matches-clause-leaves : goal.returns-after-matches-clause-leav
 returns-after-matches-clause-leaves c =
     let is : cond c.match-matches.matches New Discovery ≡ c.in_ok-verdict.verdict =
     elim c.match-matches.branch [
-      in-New w ↦ rw w.matches-is (sym w.in-New.is)
+      | in-New w ↦ rw w.matches-is (sym w.in-New.is)
       | in_default-matches w ↦ rw w.matches-is (other-verdict c.in_ok-verdict.verdict c.in_default.not-Repeat w.in_default-matches.not-New)
     ] in
     served-carried _ _ _ c.match-matches.matches (sym c.in_ok-verdict.was ∙ c.verdict_of.ensures) is c.act.ensures

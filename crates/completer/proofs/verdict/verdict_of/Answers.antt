@@ -9,7 +9,7 @@ pub returns-then-not-lent_ok : goal.returns-then-not-lent_ok
 unfolding verdict_by
 returns-then-not-lent_ok c =
     elim c.then-not-lent_ok.branch [
-      then-not-lent_ok-via-then-not-lent_ok w ↦ simp (c.of.ensures, flag_off c.lent_ok.ensures w.if-not-lent_ok.true)
+      | then-not-lent_ok-via-then-not-lent_ok w ↦ simp (c.of.ensures, flag_off c.lent_ok.ensures w.if-not-lent_ok.true)
       | then-not-lent_ok-via-else-not-lent_ok+then-not-kept_ok w ↦ simp (c.of.ensures, flag-on c.lent_ok.ensures w.if-not-lent_ok.false, flag_off w.kept_ok.ensures w.if-not-kept_ok.true)
     ]
 

@@ -1,5 +1,5 @@
 -- `carrying::putting::Answer::put_advert` meets its contract: no word, one, or one behind the other. Assumes nothing.
-use mathlib.Core.Path.{◌≡◌, refl}
+use mathlib.Core.Path.{◌≡◌}
 use native.Mathlib.Omega.{arith}
 use Rattle.carrying.proofs.Laws.Putting.{adds_none, adds-more, adds-room}
 use Rattle.carrying.proofs.putting.Answer.put_advert.Goals as goal
