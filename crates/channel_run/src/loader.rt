@@ -6,17 +6,23 @@ ghost use Rattle.channel_run.specs.Loader.{sent_of, offered, took};
 
 use crate::Bytes;
 use header::refusal::Refusal;
-use initiator::sender::Sender;
-use initiator::{outcome, sender};
+use initiator::outcome;
+use initiator::sender::{Moved, Sender, Taken};
 use std::fmt;
 
 // What is sent of a message: nothing where it does not wait.
 pub fn send(s: Sender, message: &Bytes) -> Bytes
     ensures { result ≡ sent_of s message.now }
 {
-    Bytes {
-        bytes: message.bytes,
-        n: sender::send(s, message.as_slice()).len(),
+    match s.send(message.as_slice()) {
+        Ok(part) => Bytes {
+            bytes: message.bytes,
+            n: part.len(),
+        },
+        Err(_) => Bytes {
+            bytes: message.bytes,
+            n: 0,
+        },
     }
 }
 
@@ -66,7 +72,7 @@ impl fmt::Display for Offered {
 pub fn offer(s: Sender, message: &Bytes) -> Offered
     ensures { result ≡ offered s message.now }
 {
-    let moved = sender::offer(s, message.as_slice());
+    let moved = Moved::of(s.offer(message.as_slice()), s);
     Offered {
         state: State {
             refusal: moved.refusal,
@@ -93,7 +99,7 @@ impl fmt::Display for Took {
 pub fn take(s: Sender, message: &Bytes, answer: &Bytes) -> Took
     ensures { result ≡ took (take_of s (datagram_in message.now) (datagram_in answer.now)) }
 {
-    let taken = sender::take(s, message.as_slice(), answer.as_slice());
+    let taken = Taken::of(s.take(message.as_slice(), answer.as_slice()), s);
     Took {
         state: State {
             refusal: taken.refusal,

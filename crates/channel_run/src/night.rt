@@ -8,7 +8,7 @@ ghost use Rattle.channel_run.specs.Night.{end_of, stranger_bytes};
 
 use crate::Channel;
 use crate::controller::{Answering, Arrived, Controller};
-use initiator::sender::Sender;
+use initiator::sender::{Moved, Sender};
 use message::discovery;
 use std::{fmt, io};
 use tags::record::TagRecord;
@@ -136,7 +136,8 @@ impl<L: Loader<WORDS>, const WORDS: usize> Night<L, WORDS> {
         ensures requests { self.new.requests ≡ self.old.requests }
         ensures answering { self.new.answering ≡ self.old.answering }
     {
-        let moved = Sender::discovered(self.answering.answers.get(i).as_slice());
+        let found = Sender::discovered(self.answering.answers.get(i).as_slice());
+        let moved = Moved::of(found, Sender::stopped());
         self.loader.begins(moved.sender);
         println!(rt;
             ": refusal {}, next {}",

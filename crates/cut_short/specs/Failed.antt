@@ -1,10 +1,9 @@
 -- [13] The training table that fails: a memory one word too short and a mark that is 24 before, from bytes; and with
 -- any controller, in figures. proofs/Sharp.antt computes it. Assumes nothing.
-use Rattle.std.specs.Prelude.{ℕ, zero, suc, ◌≡◌, List, [], ◌∷◌, ◌++◌, replicate, take}
+use Rattle.std.specs.Prelude.{ℕ, zero, suc, ◌≡◌, List, [], ◌∷◌, ◌++◌, replicate, take, Some}
 use Rattle.answer.specs.declared.Status.{Status}
 use Rattle.answer.specs.declared.Status.TheVariants.{Timeout, Error}
 use Rattle.completer.specs.Controller.{Controller}
-use Rattle.initiator.specs.declared.outcome.Ending.TheVariants as outcome
 use Rattle.once.specs.World.{Event}
 use Rattle.once.specs.Lives.{unasked, begun}
 use Rattle.exchange.specs.Outcomes.{Outcome}
@@ -52,7 +51,7 @@ pub record MarkedBefore : Type 0 where
 -- Over what life 0 left, the four messages of life 1, with outcomes that are true. k rows written; and k rows read,
 -- from row r on, as they were sent.
 abbrev pub failed : Status → Outcome
-failed status = record { ending = outcome.Ended status; words = [] } ∷ []
+failed status = record { ending = Some status; words = [] } ∷ []
 
 abbrev pub wrote : ℕ → Outcome
 wrote zero = []

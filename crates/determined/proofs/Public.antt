@@ -1,7 +1,14 @@
 -- The contracts of both ends' calls are determined: each is an equation, whose other side is of what came in. Assumes
 -- nothing.
-use mathlib.Core.Path.{sym, ◌∙◌}
-use Rattle.determined.specs.Public.{Controlling, Building, Sending, Training, InC}
+use mathlib.Core.Path.{◌≡◌, sym, ap, ◌∙◌}
+use mathlib.Core.Bool.{true, false, false≢true}
+use Rattle.std.specs.Prelude.{Result, Ok, Err, MatchResult}
+use Rattle.header.specs.declared.refusal.Refusal.{Refusal}
+use Rattle.header.specs.Refusal.{refusal}
+use Rattle.initiator.specs.declared.sender.Sender.{Sender}
+use Rattle.initiator.specs.declared.places.Checked.{Checked}
+use Rattle.initiator.specs.Places.{sender_ok}
+use Rattle.determined.specs.Public.{seen_by, Controlling, Building, Sending, Training, InC}
 use Rattle.determined.proofs.Equal.{both, one_of, first_of, two-of}
 
 pub controlling : Controlling
@@ -22,18 +29,35 @@ building =
       close = λ M 𝓤 𝓛 mem run κs a g one other. two-of 𝓤;
     }
 
+-- a sender is checked, or is not, by its record alone
+checked-same : (s : Sender) (x y : Result Checked Refusal)
+    → MatchResult x (λ c. (c.sender ≡ s) × (sender_ok s ≡ true)) (λ r. (r ≡ refusal 37) × (sender_ok s ≡ false))
+    → MatchResult y (λ c. (c.sender ≡ s) × (sender_ok s ≡ true)) (λ r. (r ≡ refusal 37) × (sender_ok s ≡ false))
+    → seen_by (λ (c : Checked). c.sender) x ≡ seen_by (λ (c : Checked). c.sender) y
+checked-same s (Ok c) (Ok d) p q = ap Ok (p.0 ∙ sym q.0)
+checked-same s (Ok c) (Err r) p q = absurd (false≢true (sym q.1 ∙ p.1))
+checked-same s (Err r) (Ok d) p q = absurd (false≢true (sym p.1 ∙ q.1))
+checked-same s (Err r) (Err z) p q = ap Err (p.0 ∙ sym q.0)
+
+-- and what is sent is one
+sent-same : {A B : Type 0} (see : A → B) (x : Result B Refusal) (r : Result A Refusal)
+    → MatchResult r (λ part. Ok (see part) ≡ x) (λ e. Err e ≡ x) → seen_by see r ≡ x
+sent-same see x (Ok a) p = p
+sent-same see x (Err e) p = p
+
 pub sending : Sending
 sending =
     record {
-      sender-ok = λ M 𝓤 𝓛 mem run κs a g one other. one_of 𝓤;
-      refusal-of = λ M 𝓤 𝓛 mem run κs a g one other. one_of 𝓤;
+      checked = λ M 𝓤 𝓛 mem run κs a g one other. both 𝓤 (λ p q. checked-same _ one.0 other.0 p q);
       ask = λ M 𝓤 𝓛 mem run κs a g one other. one_of 𝓤;
       ask-as = λ M 𝓤 𝓛 mem run κs a g one other. one_of 𝓤;
       fresh = λ M 𝓤 𝓛 mem run κs a g one other. one_of 𝓤;
+      stopped = λ M 𝓤 𝓛 mem run κs a g one other. one_of 𝓤;
       discovered = λ M 𝓤 𝓛 mem run κs a g one other. one_of 𝓤;
+      moved = λ M 𝓤 𝓛 mem run κs a g one other. one_of 𝓤;
+      taken = λ M 𝓤 𝓛 mem run κs a g one other. one_of 𝓤;
       offer = λ M 𝓤 𝓛 mem run κs a g one other. one_of 𝓤;
-      send-refusal = λ M 𝓤 𝓛 mem run κs a g one other. one_of 𝓤;
-      send = λ M 𝓤 𝓛 mem run κs a g one other. one_of 𝓤;
+      send = λ M 𝓤 𝓛 mem run κs a g one other. both 𝓤 (λ p q. sent-same (λ part. part.now) _ one.0 p ∙ sym (sent-same (λ part. part.now) _ other.0 q));
       take = λ M 𝓤 𝓛 mem run κs a g one other. one_of 𝓤;
       told = λ M 𝓤 𝓛 mem run κs a g one other. one_of 𝓤;
       answered = λ M 𝓤 𝓛 mem run κs a g one other. one_of 𝓤;

@@ -1,7 +1,7 @@
 -- "Every public function says what it returns and what each lent buffer and record then holds, refusals too, so that
 -- any two results allowed for one input are shown equal": of the calls of both ends, about their contracts as the
 -- checker has them. proofs/Public.antt proves it. Assumes nothing.
-use Rattle.std.specs.Prelude.{◌≡◌}
+use Rattle.std.specs.Prelude.{◌≡◌, Result, Ok, Err}
 use seplogic.Ra.Ura.{Ura}
 use base.Logic.{SProp, ent}
 use contract.Lifetimes.{Lfts}
@@ -21,16 +21,20 @@ use Rattle.controller.specs.contracts.charkhavo_serve as ServeInPlace
 use Rattle.building.specs.contracts.build.begin as Begin
 use Rattle.building.specs.contracts.build.add as Add
 use Rattle.building.specs.contracts.build.close as Close
-use Rattle.initiator.specs.contracts.places.sender_ok as SenderOk
-use Rattle.initiator.specs.contracts.asking.refusal_of as RefusalOf
+use Rattle.header.specs.declared.refusal.Refusal.{Refusal}
+use Rattle.initiator.specs.declared.sender.Sender.{Sender}
+use Rattle.initiator.specs.declared.places.Checked.{Checked}
+use Rattle.initiator.specs.contracts.sender.Sender.checked as CheckedBy
 use Rattle.initiator.specs.contracts.asking.ask as Ask
 use Rattle.initiator.specs.contracts.asking.ask_as as AskAs
 use Rattle.initiator.specs.contracts.sender.Sender.fresh as Fresh
 use Rattle.initiator.specs.contracts.sender.Sender.discovered as Discovered
-use Rattle.initiator.specs.contracts.sender.offer as Offer
-use Rattle.initiator.specs.contracts.sender.send_refusal as SendRefusal
-use Rattle.initiator.specs.contracts.sender.send as Send
-use Rattle.initiator.specs.contracts.sender.take as Take
+use Rattle.initiator.specs.contracts.sender.Sender.stopped as Stopped
+use Rattle.initiator.specs.contracts.sender.Sender.offer as Offer
+use Rattle.initiator.specs.contracts.sender.Sender.send as Send
+use Rattle.initiator.specs.contracts.sender.Sender.take as Take
+use Rattle.initiator.specs.contracts.sender.Moved.of as MovedOf
+use Rattle.initiator.specs.contracts.sender.Taken.of as TakenOf
 use Rattle.initiator.specs.contracts.outcome.told as Told
 use Rattle.initiator.specs.contracts.outcome.answered as Answered
 use Rattle.initiator.specs.contracts.outcome.ended as EndedBy
@@ -116,17 +120,24 @@ pub record Building : Type 2 where
   pub add : Determined Add.ended (λ M 𝓤. Add.clauses) (λ κs r e. beside r e.0.now)
   pub close : Determined Close.ended (λ M 𝓤. Close.clauses) (λ κs r e. beside r e.0.now)
 
--- Sending and outcomes: nothing that is lent can be changed. A part that comes back is its bytes.
+-- what a call gave back, each value seen so; a refusal is seen as it is
+abbrev pub seen_by : {A B : Type 0} → (A → B) → Result A Refusal → Result B Refusal
+seen_by see (Ok a) = Ok (see a)
+seen_by see (Err r) = Err r
+
+-- Sending and outcomes: nothing that is lent can be changed. A part that comes back is its bytes, and a sender that was
+-- checked is its record.
 pub record Sending : Type 2 where
-  pub sender-ok : Determined SenderOk.ended (λ M 𝓤. SenderOk.clauses) (λ κs r e. r)
-  pub refusal-of : Determined RefusalOf.ended (λ M 𝓤. RefusalOf.clauses) (λ κs r e. r)
+  pub checked : Determined CheckedBy.ended (λ M 𝓤. CheckedBy.clauses) (λ κs r e. seen_by (λ (c : Checked). c.sender) r)
   pub ask : Determined Ask.ended (λ M 𝓤. Ask.clauses) (λ κs r e. r)
   pub ask-as : Determined AskAs.ended (λ M 𝓤. AskAs.clauses) (λ κs r e. r)
   pub fresh : Determined Fresh.ended (λ M 𝓤. Fresh.clauses) (λ κs r e. r)
+  pub stopped : Determined Stopped.ended (λ M 𝓤. Stopped.clauses) (λ κs r e. r)
   pub discovered : Determined Discovered.ended (λ M 𝓤. Discovered.clauses) (λ κs r e. r)
+  pub moved : Determined MovedOf.ended (λ M 𝓤. MovedOf.clauses) (λ κs r e. r)
+  pub taken : Determined TakenOf.ended (λ M 𝓤. TakenOf.clauses) (λ κs r e. r)
   pub offer : Determined Offer.ended (λ M 𝓤. Offer.clauses) (λ κs r e. r)
-  pub send-refusal : Determined SendRefusal.ended (λ M 𝓤. SendRefusal.clauses) (λ κs r e. r)
-  pub send : Determined Send.ended (λ M 𝓤. Send.clauses) (λ κs r e. r.now)
+  pub send : Determined Send.ended (λ M 𝓤. Send.clauses) (λ κs r e. seen_by (λ part. part.now) r)
   pub take : Determined Take.ended (λ M 𝓤. Take.clauses) (λ κs r e. r)
   pub told : Determined Told.ended (λ M 𝓤. Told.clauses) (λ κs r e. r)
   pub answered : Determined Answered.ended (λ M 𝓤. Answered.clauses) (λ κs r e. r)

@@ -22,7 +22,7 @@ use Rattle.answer.proofs.Laws.Heads.{answer-tag, answer-discovery}
 use Rattle.answer.proofs.Laws.Accepts.{judge-encoded, other_byte}
 use Rattle.answer.proofs.Laws.Looking.{judge-long}
 use Rattle.carrying.specs.Answers.{failed, answer_to}
-use Rattle.initiator.specs.declared.outcome.Ending.TheVariants.{Absent}
+use Rattle.std.specs.Prelude.{None}
 use Rattle.initiator.specs.Outcome.{judged_by, count_in}
 use Rattle.initiator.proofs.Laws.Outcomes.{judged-plain, ending-none, data-none, ending-first, ending-next, data-first, data-next}
 use Rattle.exchange.specs.Outcomes.{Result, Outcome, each, told_at, told, result_of, results_in, outcome_over}
@@ -121,7 +121,7 @@ each-told message (a ∷ more) = rw (ending-first a more, data-first a more kind
 
 -- what the loader is told of command k is what the outcome functions tell of it; of one that was not answered, nothing
 abbrev nothing : Result
-nothing = record { ending = Absent; words = [] }
+nothing = record { ending = None; words = [] }
 
 none-past : (message : List ℕ) (items : List Answered) (k : ℕ) → length items ≤ k → told_at message (Means items) k ≡ nothing
 none-past message [] k l = rw (ending-none k, data-none (kind_of (get_or message 0 0)) k)
@@ -130,7 +130,7 @@ none-past message (a ∷ more) (suc k) l =
     rw (ending-next a more k, data-next a more (kind_of (get_or message 0 0)) k) (none-past message more k (omega arith))
 
 pub told_at_lem : (message answer : List ℕ) (k : ℕ)
-    → get_or (told message answer) k (record { ending = Absent; words = [] }) ≡ told_at message (judged_by (read message) answer) k
+    → get_or (told message answer) k (record { ending = None; words = [] }) ≡ told_at message (judged_by (read message) answer) k
 unfolding told
 told_at_lem message answer k = go (judged_by (read message) answer)
   where

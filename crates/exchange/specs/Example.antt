@@ -2,7 +2,7 @@
 -- too early, and again; a send comes late, and one never; arrivals and answers come twice; the answers are crossed, so
 -- that three messages end at once; a discovery in between, whose answer reaches the sender; repeats of the fourth-last;
 -- and a sender made anew. proofs/Example.antt computes it. Assumes nothing.
-use Rattle.std.specs.Prelude.{ℕ, ◌+◌, ◌*◌, ◌≡◌, List, [], ◌∷◌, ◌++◌, replicate}
+use Rattle.std.specs.Prelude.{ℕ, ◌+◌, ◌*◌, ◌≡◌, List, [], ◌∷◌, ◌++◌, replicate, Some}
 use Rattle.std.proofs.Math.Option.{Option, none, some}
 use Rattle.word.specs.Words.{bytes_of}
 use Rattle.header.specs.Limits.{limit, limit_bytes}
@@ -12,7 +12,6 @@ use Rattle.answer.specs.declared.Status.TheVariants.{Ok}
 use Rattle.tags.specs.Record.{places, fresh_record}
 use Rattle.completer.specs.Controller.{Controller}
 use Rattle.completer.specs.Serving.{after}
-use Rattle.initiator.specs.declared.outcome.Ending.TheVariants.{Ended}
 use Rattle.initiator.specs.Sender.{idle, fresh_sender, start_of}
 use Rattle.once.specs.World.{Origin, Event, offer, send, arrive, back, other, message, stranger}
 use Rattle.exchange.specs.Outcomes.{Outcome}
@@ -108,7 +107,7 @@ Anew = Begins (morning controller loader night).controller anew
 
 -- the outcome of one command that is OK, with these words read
 abbrev pub ok : List ℕ → Outcome
-ok words = record { ending = Ended Ok; words = words } ∷ []
+ok words = record { ending = Some Ok; words = words } ∷ []
 
 abbrev pub outcomes : List Outcome
 outcomes = ok [] ∷ ok (0 ∷ 0xFEEDC0DE ∷ []) ∷ ok [] ∷ ok (0xABADCAFE ∷ 0xFEEDC0DE ∷ []) ∷ ok [] ∷ []

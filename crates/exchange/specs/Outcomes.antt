@@ -1,18 +1,17 @@
 -- The outcome of a message: as the loader is told it, and as carrying the message out gives it. Assumes nothing.
-use Rattle.std.specs.Prelude.{ℕ, zero, suc, List, [], ◌∷◌, get_or}
+use Rattle.std.specs.Prelude.{ℕ, zero, suc, List, [], ◌∷◌, get_or, Option, Some}
 use Rattle.header.specs.declared.Kind.{Kind}
 use Rattle.header.specs.Header.{kind_of}
 use Rattle.message.specs.Request.{Reading}
 use Rattle.message.specs.Walk.{read, request_of}
+use Rattle.answer.specs.declared.Status.{Status}
 use Rattle.answer.specs.Answer.{Answered}
 use Rattle.carrying.specs.Answers.{answer_to}
-use Rattle.initiator.specs.declared.outcome.Ending.{Ending}
-use Rattle.initiator.specs.declared.outcome.Ending.TheVariants.{Ended}
 use Rattle.initiator.specs.Outcome.{judged_by, count_in, ending_in, data_in, data_of}
 
 -- "its outcome is the status and read data of each answered command"
 pub record Result : Type 0 where
-  pub ending : Ending
+  pub ending : Option Status
   pub words : List ℕ
 
 abbrev pub Outcome : Type 0
@@ -33,7 +32,7 @@ told message answer = each (count_in (judged_by (read message) answer)) (told_at
 
 -- what an answer to a command of this kind says: its status, and the data of an OK read; and a list of them
 abbrev pub result_of : Kind → Answered → Result
-result_of kind a = record { ending = Ended a.status; words = data_of kind a.status a.payload }
+result_of kind a = record { ending = Some a.status; words = data_of kind a.status a.payload }
 
 unfoldable pub results_in : Kind → List Answered → Outcome
 results_in kind [] = []

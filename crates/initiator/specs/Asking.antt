@@ -1,11 +1,9 @@
 -- 31: whether a request may be asked. Assumes nothing.
-use Rattle.std.specs.Prelude.{ℕ, Bool, true, false, cond}
+use Rattle.std.specs.Prelude.{ℕ, Bool, true, false, cond, Result}
 use Rattle.header.specs.declared.refusal.Refusal.{Refusal}
 use Rattle.header.specs.Header.{tag_of, discovery_of}
 use Rattle.header.specs.Refusal.{refused_at, refusal}
-use Rattle.message.specs.Request.{Request, Reading, Refused, Means}
-use Rattle.initiator.specs.declared.asking.Asking.{Asking}
-use Rattle.initiator.specs.declared.asking.Asking.TheVariants.{Asks, Refused as RefusedAsking}
+use Rattle.message.specs.Request.{Request, Reading, Refused, Means, given}
 
 -- "31: request would be refused 2 to 10, has the discovery bit", and "gives the index in the request": that of the
 -- refusal which the request would get; 0 for the discovery bit
@@ -29,11 +27,6 @@ lets_by (Means q) = true
 unfoldable pub asks_as : (ℕ → Bool) → Reading Request → Bool
 asks_as fits p = lets_by (asked_as fits p)
 
--- what the functions tell of it: byte 0, or the refusal; and that refusal, number 0 for none
-abbrev pub asking_of : Reading Request → Asking
-asking_of (Refused r) = RefusedAsking r
-asking_of (Means q) = Asks q.byte0
-
-abbrev pub refusal_of : Asking → Refusal
-refusal_of (Asks byte0) = refusal 0
-refusal_of (RefusedAsking r) = r
+-- what the functions give back of it: byte 0, or the refusal
+abbrev pub asking_of : Reading Request → Result ℕ Refusal
+asking_of p = given (λ (q : Request). q.byte0) p

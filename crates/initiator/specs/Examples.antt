@@ -1,13 +1,13 @@
 -- Outcomes in figures, from bytes, and the messages that the sender's lines have too. `proofs/Laws/Benched.antt`
 -- computes them. Assumes nothing.
-use Rattle.std.specs.Prelude.{ℕ, ◌≡◌, List, [], ◌∷◌, get_or}
+use Rattle.std.specs.Prelude.{ℕ, ◌≡◌, List, [], ◌∷◌, get_or, Option, Some, None, Result, Err, Ok as Tells}
 use Rattle.word.specs.Words.{bytes_of}
 use Rattle.header.specs.Header.{kind_of}
-use Rattle.header.specs.Refusal.{refused_at, refusal}
+use Rattle.header.specs.declared.refusal.Refusal.{Refusal}
+use Rattle.header.specs.Refusal.{refused_at}
 use Rattle.message.specs.Walk.{read}
+use Rattle.answer.specs.declared.Status.{Status}
 use Rattle.answer.specs.declared.Status.TheVariants.{Ok, Timeout, Error}
-use Rattle.initiator.specs.declared.outcome.Ending.{Ending}
-use Rattle.initiator.specs.declared.outcome.Ending.TheVariants.{Absent, Ended}
 use Rattle.initiator.specs.declared.outcome.Outcome.{Outcome}
 use Rattle.initiator.specs.Outcome.{judged_by, part_in, cut, data_in, outcome_of}
 
@@ -35,7 +35,7 @@ two_writes h = bytes_of (0x00010F10 ∷ 0x00000000 ∷ 0x11111111 ∷ h ∷ 0x00
 
 -- what is told of an answer and of command k: the outcome, the bytes of its part, and its data words
 pub record Told : Type 0 where
-  pub outcome : Outcome
+  pub outcome : Result Outcome Refusal
   pub part : List ℕ
   pub words : List ℕ
 
@@ -48,20 +48,20 @@ told request answer k =
     }
 
 -- so many commands were answered, command k ended so, and these are its words, from this byte to that
-abbrev pub tells : List ℕ → List ℕ → ℕ → ℕ → Ending → ℕ → ℕ → List ℕ → Line Told
+abbrev pub tells : List ℕ → List ℕ → ℕ → ℕ → Option Status → ℕ → ℕ → List ℕ → Line Told
 tells request answer k count ending start end words =
     record {
       given = told request answer k;
       is =
           record {
-            outcome = record { refusal = refusal 0; count = count; ending = ending; start = start; end = end };
+            outcome = Tells (record { count = count; ending = ending; part = record { start = start; end = end } });
             part = bytes_of words;
             words = words;
           };
     }
 
 -- the same of a command with no read data
-abbrev pub ends : List ℕ → List ℕ → ℕ → ℕ → Ending → Line Told
+abbrev pub ends : List ℕ → List ℕ → ℕ → ℕ → Option Status → Line Told
 ends request answer k count ending = tells request answer k count ending 0 0 []
 
 -- refused: nothing is told
@@ -71,7 +71,7 @@ silent request answer n at =
       given = told request answer 0;
       is =
           record {
-            outcome = record { refusal = refused_at n at; count = 0; ending = Absent; start = 0; end = 0 };
+            outcome = Err (refused_at n at);
             part = [];
             words = [];
           };
@@ -95,25 +95,25 @@ nop_two = bytes_of (0x80020000 ∷ 0x00000001 ∷ 0x00000002 ∷ [])
 
 unfoldable pub outcomes : List (Line Told)
 outcomes =
-    tells three_reads all_read 0 3 (Ended Ok) 4 8 (0x11111111 ∷ [])
-    ∷ tells three_reads all_read 1 3 (Ended Ok) 12 20 (0x22222222 ∷ 0x33333333 ∷ [])
-    ∷ tells three_reads all_read 2 3 (Ended Ok) 24 28 (0x44444444 ∷ [])
+    tells three_reads all_read 0 3 (Some Ok) 4 8 (0x11111111 ∷ [])
+    ∷ tells three_reads all_read 1 3 (Some Ok) 12 20 (0x22222222 ∷ 0x33333333 ∷ [])
+    ∷ tells three_reads all_read 2 3 (Some Ok) 24 28 (0x44444444 ∷ [])
     -- absent: one past the last, and far past it
-    ∷ ends three_reads all_read 3 3 Absent
-    ∷ ends three_reads all_read 4294967296 3 Absent
+    ∷ ends three_reads all_read 3 3 None
+    ∷ ends three_reads all_read 4294967296 3 None
     -- an Error in the middle: what was read before it stands, what comes after it is absent; a Timeout
-    ∷ tells three_reads second_failed 0 2 (Ended Ok) 4 8 (0x11111111 ∷ [])
-    ∷ ends three_reads second_failed 1 2 (Ended Error)
-    ∷ ends three_reads second_failed 2 2 Absent
-    ∷ ends three_reads (bytes_of (0x80000132 ∷ [])) 0 1 (Ended Timeout)
-    ∷ ends three_reads (bytes_of (0x80000132 ∷ [])) 1 1 Absent
+    ∷ tells three_reads second_failed 0 2 (Some Ok) 4 8 (0x11111111 ∷ [])
+    ∷ ends three_reads second_failed 1 2 (Some Error)
+    ∷ ends three_reads second_failed 2 2 None
+    ∷ ends three_reads (bytes_of (0x80000132 ∷ [])) 0 1 (Some Timeout)
+    ∷ ends three_reads (bytes_of (0x80000132 ∷ [])) 1 1 None
     -- no OK read: a write, two, and a NOP's words; a read of 64 bits, of tag 15
-    ∷ ends write_a (bytes_of (0x80000030 ∷ [])) 0 1 (Ended Ok)
-    ∷ ends (two_writes 0x80010F10) (bytes_of (0x00000030 ∷ 0x80000230 ∷ [])) 0 2 (Ended Ok)
-    ∷ ends (two_writes 0x80010F10) (bytes_of (0x00000030 ∷ 0x80000230 ∷ [])) 1 2 (Ended Error)
-    ∷ ends nop_two (bytes_of (0x80020030 ∷ 0x0000230C ∷ 0x00000013 ∷ [])) 0 1 (Ended Ok)
+    ∷ ends write_a (bytes_of (0x80000030 ∷ [])) 0 1 (Some Ok)
+    ∷ ends (two_writes 0x80010F10) (bytes_of (0x00000030 ∷ 0x80000230 ∷ [])) 0 2 (Some Ok)
+    ∷ ends (two_writes 0x80010F10) (bytes_of (0x00000030 ∷ 0x80000230 ∷ [])) 1 2 (Some Error)
+    ∷ ends nop_two (bytes_of (0x80020030 ∷ 0x0000230C ∷ 0x00000013 ∷ [])) 0 1 (Some Ok)
     ∷ tells (bytes_of (0x8001006F ∷ 0x00000010 ∷ 0x00000000 ∷ [])) (bytes_of (0x8001007F ∷ 0xF00DFACE ∷ [])) 0 1
-    (Ended Ok) 4 8 (0xF00DFACE ∷ [])
+    (Some Ok) 4 8 (0xF00DFACE ∷ [])
     -- 31 (its tag clause aside) to 35: no LAST, and no answer; the bench sheet's discovery read; three bytes; another
     -- tag; a second status 3; cut short
     ∷ silent (write 0x00010F10) [] 31 3

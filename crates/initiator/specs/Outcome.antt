@@ -1,16 +1,15 @@
 -- What an answer tells of its request. The contracts of `outcome` cite these. Assumes nothing.
-use Rattle.std.specs.Prelude.{ℕ, zero, suc, ◌+◌, ◌-◌, ◌*◌, ◌≡◌, List, [], ◌∷◌, length, get_or, take, drop}
+use Rattle.std.specs.Prelude.{ℕ, zero, suc, ◌+◌, ◌-◌, ◌*◌, ◌≡◌, List, [], ◌∷◌, length, get_or, take, drop, Option, Some, None, Result}
 use Rattle.word.specs.Words.{bytes_of}
 use Rattle.header.specs.declared.Kind.{Kind}
 use Rattle.header.specs.declared.Kind.TheVariants.{Nop, Write, Read, Response}
+use Rattle.header.specs.declared.refusal.Refusal.{Refusal}
 use Rattle.header.specs.Header.{kind_of}
-use Rattle.message.specs.Request.{Request, Reading, Refused, Means, refusal_in}
+use Rattle.message.specs.Request.{Request, Reading, Refused, Means, given}
 use Rattle.message.specs.Walk.{read}
 use Rattle.answer.specs.declared.Status.{Status}
 use Rattle.answer.specs.declared.Status.TheVariants.{Ok, Timeout, Error}
 use Rattle.answer.specs.Answer.{Answered, judge}
-use Rattle.initiator.specs.declared.outcome.Ending.{Ending}
-use Rattle.initiator.specs.declared.outcome.Ending.TheVariants.{Absent, Ended}
 use Rattle.initiator.specs.declared.outcome.Outcome.{Outcome}
 use Rattle.initiator.specs.declared.outcome.Span.{Span}
 use Rattle.initiator.specs.Asking.{plainly}
@@ -24,10 +23,10 @@ judged_in (Means q) answer = judge q answer
 unfoldable pub judged_by : Reading Request → List ℕ → Reading (List Answered)
 judged_by p answer = judged_in (plainly p) answer
 
--- how command k ended, counted from 0
-unfoldable pub ending_at : ℕ → List Answered → Ending
-ending_at k [] = Absent
-ending_at zero (a ∷ more) = Ended a.status
+-- how command k ended, counted from 0; none: it was not answered
+unfoldable pub ending_at : ℕ → List Answered → Option Status
+ending_at k [] = None
+ending_at zero (a ∷ more) = Some a.status
 ending_at (suc k) (a ∷ more) = ending_at k more
 
 -- a part of the answer's bytes, from a start to an end: an empty one, and that of `count` data words behind the header
@@ -78,8 +77,8 @@ abbrev pub count_in : Reading (List Answered) → ℕ
 count_in (Refused r) = 0
 count_in (Means items) = length items
 
-abbrev pub ending_in : ℕ → Reading (List Answered) → Ending
-ending_in k (Refused r) = Absent
+abbrev pub ending_in : ℕ → Reading (List Answered) → Option Status
+ending_in k (Refused r) = None
 ending_in k (Means items) = ending_at k items
 
 abbrev pub part_in : Kind → ℕ → Reading (List Answered) → Span
@@ -90,16 +89,9 @@ abbrev pub data_in : Kind → ℕ → Reading (List Answered) → List ℕ
 data_in kind k (Refused r) = []
 data_in kind k (Means items) = data_at kind k items
 
--- all of it together
-unfoldable pub told_of : Kind → ℕ → Reading (List Answered) → Outcome
-told_of kind k p =
-    record {
-      refusal = refusal_in p;
-      count = count_in p;
-      ending = ending_in k p;
-      start = (part_in kind k p).start;
-      end = (part_in kind k p).end;
-    }
+-- all of it together, of an answer that is not refused
+unfoldable pub told_of : Kind → ℕ → List Answered → Outcome
+told_of kind k items = record { count = length items; ending = ending_at k items; part = part_at kind k 0 items }
 
 -- the bytes of the part that comes back for command k: those at its place in the answer, and that command's data words
 pub record ReadData (request answer : List ℕ) (k : ℕ) (part : List ℕ) : Type 0 where
@@ -107,5 +99,5 @@ pub record ReadData (request answer : List ℕ) (k : ℕ) (part : List ℕ) : Ty
   pub words : part ≡ bytes_of (data_in (kind_of (get_or request 0 0)) k (judged_by (read request) answer))
 
 -- what an answer tells of its request and of command k
-unfoldable pub outcome_of : List ℕ → List ℕ → ℕ → Outcome
-outcome_of request answer k = told_of (kind_of (get_or request 0 0)) k (judged_by (read request) answer)
+unfoldable pub outcome_of : List ℕ → List ℕ → ℕ → Result Outcome Refusal
+outcome_of request answer k = given (told_of (kind_of (get_or request 0 0)) k) (judged_by (read request) answer)

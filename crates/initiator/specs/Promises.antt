@@ -1,6 +1,6 @@
 -- What is promised of the sender, in other words than its definitions. The proofs are in proofs/Laws/Promises.antt.
 -- Assumes nothing.
-use Rattle.std.specs.Prelude.{ℕ, ◌+◌, ◌%◌, ◌≤◌, ◌<◌, ◌≡◌, true, false, not, ◌&&◌, ◌||◌, List, eqb, length, get_or}
+use Rattle.std.specs.Prelude.{ℕ, ◌+◌, ◌%◌, ◌≤◌, ◌<◌, ◌≡◌, true, false, not, ◌&&◌, ◌||◌, List, eqb, length, get_or, Err}
 use Rattle.header.specs.declared.refusal.Refusal.{Refusal}
 use Rattle.header.specs.Limits.{length_ok}
 use Rattle.header.specs.Header.{tag_of, discovery_of}
@@ -98,7 +98,7 @@ pub record SaysWhere (message : List ℕ) (at : ℕ) : Type 0 where
   pub send : (s : Sender) → s.next < 16 → 0 < s.waiting → s.waiting ≤ 4 → send_fault s message ≡ refused_at 31 at
   pub take : (s : Sender) (answer : List ℕ) → s.next < 16 → 0 < s.waiting → s.waiting ≤ 4
       → (take_of s message answer).refusal ≡ refused_at 31 at
-  pub told : (answer : List ℕ) (k : ℕ) → (outcome_of message answer k).refusal ≡ refused_at 31 at
+  pub told : (answer : List ℕ) (k : ℕ) → outcome_of message answer k ≡ Err (refused_at 31 at)
 
 abbrev pub Where : List ℕ → Type 0
 Where message = (n at : ℕ) → read message ≡ Refused (refused_at n at) → SaysWhere message at
@@ -113,5 +113,5 @@ pub record HandsOn (answer : List ℕ) (r : Refusal) : Type 0 where
   pub take : (s : Sender) (message : List ℕ) → (send_fault s message).number ≡ 0
       → judged_by (read message) answer ≡ Refused r → (take_of s message answer).refusal ≡ r
   pub told : (message : List ℕ) (k : ℕ) → judged_by (read message) answer ≡ Refused r
-      → (outcome_of message answer k).refusal ≡ r
+      → outcome_of message answer k ≡ Err r
   pub start : judge discovery_request answer ≡ Refused r → (start_of answer).refusal ≡ r

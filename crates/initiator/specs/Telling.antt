@@ -1,5 +1,5 @@
 -- What the calls inside `told` go by; nobody else needs to read it. Assumes nothing.
-use Rattle.std.specs.Prelude.{ℕ, ◌+◌, ◌≡◌, cond, List, get_or, eqb, Result}
+use Rattle.std.specs.Prelude.{ℕ, ◌+◌, ◌≡◌, cond, List, get_or, eqb, Option, Some, Result}
 use Rattle.word.specs.Words.{Bytes}
 use Rattle.header.specs.declared.Kind.{Kind}
 use Rattle.header.specs.declared.refusal.Refusal.{Refusal}
@@ -9,33 +9,20 @@ use Rattle.message.specs.Walk.{read}
 use Rattle.answer.specs.declared.Status.{Status}
 use Rattle.answer.specs.declared.Seen.{Seen}
 use Rattle.answer.specs.Answer.{Answered, look_at, answers_from}
-use Rattle.initiator.specs.declared.outcome.Ending.{Ending}
-use Rattle.initiator.specs.declared.outcome.Ending.TheVariants.{Absent, Ended}
 use Rattle.initiator.specs.declared.outcome.Span.{Span}
 use Rattle.initiator.specs.declared.outcome.Outcome.{Outcome}
 use Rattle.initiator.specs.Outcome.{part_of}
 
--- what a refused answer tells
-abbrev pub refused_with : Refusal → Outcome
-refused_with r = record { refusal = r; count = 0; ending = Absent; start = 0; end = 0 }
-
 -- what was told so far, one answer more counted: with this ending and this part
-abbrev pub counting : Outcome → Ending → Span → Outcome
-counting told ending part =
-    record {
-      refusal = told.refusal;
-      count = told.count + 1;
-      ending = ending;
-      start = part.start;
-      end = part.end;
-    }
+abbrev pub counting : Outcome → Option Status → Span → Outcome
+counting told ending part = record { count = told.count + 1; ending = ending; part = part }
 
 -- what was told so far, with the answer whose header stands at word `at`
 unfoldable pub with_item : Outcome → ℕ → Kind → ℕ → Status → ℕ → Outcome
 with_item told k kind at status count =
     cond (eqb told.count k)
-    (counting told (Ended status) (part_of kind status at count))
-    (counting told told.ending (record { start = told.start; end = told.end }))
+    (counting told (Some status) (part_of kind status at count))
+    (counting told told.ending told.part)
 
 -- what stands at word `back` of the answer, beside the command whose header stands at word `at` of the request
 unfoldable pub look_beside : List ℕ → List ℕ → ℕ → ℕ → ℕ → Result Seen Refusal

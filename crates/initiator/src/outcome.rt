@@ -6,46 +6,15 @@ ghost use Rattle.word.specs.Words.{words_of};
 ghost use Rattle.header.specs.Limits.{limit, limit_bytes};
 ghost use Rattle.header.specs.Header.{kind_of, count_of, body_words};
 ghost use Rattle.message.specs.Walk.{read};
+ghost use Rattle.message.specs.Request.{given};
 ghost use Rattle.initiator.specs.Outcome.{span_of, part_of, told_of, judged_by, count_in, ending_in, part_in};
 ghost use Rattle.initiator.specs.Outcome.{outcome_of, ReadData, judged_in};
-ghost use Rattle.initiator.specs.Telling.{refused_with, with_item, look_beside, Ready, answers_to};
+ghost use Rattle.initiator.specs.Telling.{with_item, look_beside, Ready, answers_to};
 
 use crate::asking;
-use crate::asking::Asking;
 use answer::{Seen, Status};
 use header::Kind;
 use header::refusal::Refusal;
-
-// How a command ended: it was not answered, or with a status.
-#[derive(Clone, Copy)]
-pub enum Ending {
-    Absent,
-    Ended(Status),
-}
-
-// What is told of an answer and of its command number k: the refusal (number 0: none), how many commands were answered,
-// how command k ended, and the bytes of the answer in which its read data stand.
-#[derive(Drop)]
-pub struct Outcome {
-    pub refusal: Refusal,
-    pub count: usize,
-    pub ending: Ending,
-    pub start: usize,
-    pub end: usize,
-}
-
-// What a refused answer tells.
-fn refused(refusal: Refusal) -> Outcome
-    ensures { result ≡ refused_with refusal }
-{
-    Outcome {
-        refusal,
-        count: 0,
-        ending: Ending::Absent,
-        start: 0,
-        end: 0,
-    }
-}
 
 // A part of an answer's bytes.
 #[derive(Clone, Copy)]
@@ -53,6 +22,18 @@ pub struct Span {
     pub start: usize,
     pub end: usize,
 }
+
+// What is told of an accepted answer and of its command number k: how many commands were answered, how command k ended
+// (none: it was not answered), and the bytes of the answer in which its read data stand.
+#[derive(Clone, Copy)]
+pub struct Outcome {
+    pub count: usize,
+    pub ending: Option<Status>,
+    pub part: Span,
+}
+
+// The part of a command with no read data.
+const NO_PART: Span = Span { start: 0, end: 0 };
 
 // The bytes of `count` data words behind the header at word `at`.
 fn data_span(at: usize, count: usize) -> Span
@@ -72,45 +53,28 @@ fn part_of(kind: Kind, status: Status, at: usize, count: usize) -> Span
     requires count_bound { count < 4096 }
     ensures { result ≡ part_of kind status at count }
 {
-    match kind {
-        Kind::Nop => Span { start: 0, end: 0 },
-        Kind::Write => Span { start: 0, end: 0 },
-        Kind::Read => match status {
-            Status::Ok => data_span(at, count),
-            Status::Timeout => Span { start: 0, end: 0 },
-            Status::Error => Span { start: 0, end: 0 },
-        },
-        Kind::Response => Span { start: 0, end: 0 },
+    match (kind, status) {
+        (Kind::Read, Status::Ok) => data_span(at, count),
+        _ => NO_PART,
     }
 }
 
 // What was told so far, with one answer more: that of command k gives its ending and its part.
-fn with_item(told: Outcome, k: usize, byte0: u32, at: usize, seen: Seen) -> Outcome
+fn with_item(told: Outcome, k: usize, kind: Kind, at: usize, seen: Seen) -> Outcome
     requires { (told.count ≤ limit)
         × (at ≤ limit)
         × (seen.count < 4096) }
-    ensures { result ≡ with_item told k (kind_of byte0) at seen.status seen.count }
+    ensures { result ≡ with_item told k kind at seen.status seen.count }
 {
-    let refusal = told.refusal;
-    let count = told.count;
-    let status = seen.status;
-    if count == k {
-        let part = part_of(header::kind_of(byte0), status, at, seen.count);
-        return Outcome {
-            refusal,
-            count: count + 1,
-            ending: Ending::Ended(status),
-            start: part.start,
-            end: part.end,
-        };
+    let count = told.count + 1;
+    if told.count != k {
+        return Outcome { count, ..told };
     }
-    let ending = told.ending;
+    let status = seen.status;
     Outcome {
-        refusal,
-        count: count + 1,
-        ending,
-        start: told.start,
-        end: told.end,
+        count,
+        ending: Some(status),
+        part: part_of(kind, status, at, seen.count),
     }
 }
 
@@ -140,49 +104,51 @@ fn body_at(request: &[u8], byte0: u32, at: usize) -> usize
 }
 
 // The answers to a request's commands, side by side with them.
-fn look_through(request: &[u8], answer: &[u8], byte0: u32, k: usize) -> Outcome
+fn look_through(request: &[u8], answer: &[u8], byte0: u32, k: usize) -> Result<Outcome, Refusal>
     requires ready { Ready request.now byte0 }
     requires answer_len_bound { length answer.now ≤ limit_bytes }
-    ensures { result ≡ told_of (kind_of byte0) k
+    ensures { result ≡ given (told_of (kind_of byte0) k)
         (answers_to (read request.now) (words_of answer.now)) }
 {
-    let mut told = refused(Refusal::of(Refusal::NONE));
+    let kind = header::kind_of(byte0);
+    let mut told = Outcome {
+        count: 0,
+        ending: None,
+        part: NO_PART,
+    };
     let mut at: usize = 0;
     let mut back: usize = 0;
     loop {
-        let seen = match look_beside(request, answer, byte0, at, back) {
-            Ok(seen) => seen,
-            Err(refusal) => return refused(refusal),
-        };
-        told = with_item(told, k, byte0, back, seen);
+        let seen = look_beside(request, answer, byte0, at, back)?;
+        told = with_item(told, k, kind, back, seen);
         if seen.last {
-            return told;
+            return Ok(told);
         }
-        at = at + 1 + body_at(request, byte0, at);
-        back = back + 1 + seen.count;
+        at += 1 + body_at(request, byte0, at);
+        back += 1 + seen.count;
     }
 }
 
 // What an answer tells of an accepted request, whose byte 0 is this, and of command k: refused by 32 to 35, or what it
 // holds.
-pub(crate) fn told_by(request: &[u8], answer: &[u8], byte0: u32, k: usize) -> Outcome
+pub(crate) fn told_by(
+    request: &[u8],
+    answer: &[u8],
+    byte0: u32,
+    k: usize,
+) -> Result<Outcome, Refusal>
     requires { Ready request.now byte0 }
-    ensures { result ≡ told_of (kind_of byte0) k (judged_in (read request.now) answer.now) }
+    ensures { result ≡ given (told_of (kind_of byte0) k) (judged_in (read request.now) answer.now) }
 {
-    if let Err(refusal) = answer::check_head(byte0, answer) {
-        return refused(refusal);
-    }
+    answer::check_head(byte0, answer)?;
     look_through(request, answer, byte0, k)
 }
 
 // What an answer tells of its request and of command k: refused by 31 (its tag clause aside) to 35, or what it holds.
-pub fn told(request: &[u8], answer: &[u8], k: usize) -> Outcome
+pub fn told(request: &[u8], answer: &[u8], k: usize) -> Result<Outcome, Refusal>
     ensures { result ≡ outcome_of request.now answer.now k }
 {
-    let asking = asking::ask(request);
-    let Asking::Asks(byte0) = asking else {
-        return refused(asking::refusal_of(asking));
-    };
+    let byte0 = asking::ask(request)?;
     told_by(request, answer, byte0, k)
 }
 
@@ -190,17 +156,17 @@ pub fn told(request: &[u8], answer: &[u8], k: usize) -> Outcome
 pub fn answered(request: &[u8], answer: &[u8]) -> usize
     ensures { result ≡ count_in (judged_by (read request.now) answer.now) }
 {
-    let told = told(request, answer, 0);
-    told.count
+    match told(request, answer, 0) {
+        Ok(told) => told.count,
+        Err(_) => 0,
+    }
 }
 
-// How command k ended, counted from 0; absent where the answer is refused or has no such command.
-pub fn ended(request: &[u8], answer: &[u8], k: usize) -> Ending
+// How command k ended, counted from 0; none where the answer is refused or has no such command.
+pub fn ended(request: &[u8], answer: &[u8], k: usize) -> Option<Status>
     ensures { result ≡ ending_in k (judged_by (read request.now) answer.now) }
 {
-    let told = told(request, answer, k);
-    let ending = told.ending;
-    ending
+    told(request, answer, k).ok()?.ending
 }
 
 // Where command k's read data stand in the answer; empty at 0 for anything but an answered OK read.
@@ -209,10 +175,9 @@ pub fn read_span(request: &[u8], answer: &[u8], k: usize) -> Span
         (judged_by (read request.now) answer.now) }
     ensures inside { (result.start ≤ result.end) × (result.end ≤ length answer.now) }
 {
-    let told = told(request, answer, k);
-    Span {
-        start: told.start,
-        end: told.end,
+    match told(request, answer, k) {
+        Ok(told) => told.part,
+        Err(_) => NO_PART,
     }
 }
 
@@ -221,7 +186,5 @@ pub fn read_data<'a>(request: &[u8], answer: &'a [u8], k: usize) -> &'a [u8]
     ensures { ReadData request.now answer.now k result.now }
 {
     let span = read_span(request, answer, k);
-    let start = span.start;
-    let end = span.end;
-    &answer[start..end]
+    &answer[span.start..span.end]
 }

@@ -7,8 +7,8 @@ ghost use Rattle.message.specs.Walk.{read};
 ghost use Rattle.initiator.specs.Outcome.{judged_by, count_in};
 ghost use Rattle.loader.specs.Outcome.{ending_no, status_number, data_part};
 
+use answer::Status;
 use initiator::outcome;
-use initiator::outcome::Ending;
 
 // The number that is no status: of a command that was not answered.
 pub const ABSENT: u32 = 3;
@@ -29,12 +29,12 @@ pub fn charkhavo_count(request: &[u8], answer: &[u8]) -> usize
 }
 
 // The number of an ending.
-fn ending_no(ending: Ending) -> u32
+fn ending_no(ending: Option<Status>) -> u32
     ensures { result ≡ ending_no ending }
 {
     match ending {
-        Ending::Absent => ABSENT,
-        Ending::Ended(status) => u32::from(status),
+        None => ABSENT,
+        Some(status) => u32::from(status),
     }
 }
 

@@ -4,7 +4,6 @@ ghost use Rattle.initiator.specs.Sender.{fresh_sender, start_of, offer_of, take_
 ghost use Rattle.loader.specs.Sending.{sending_of, fixed_discovery};
 
 use header::refusal::Refusal;
-use initiator::sender;
 use initiator::sender::{Moved, Sender, Taken};
 use message::discovery;
 
@@ -44,27 +43,26 @@ pub fn charkhavo_fresh() -> Sender
 pub fn charkhavo_discovered(answer: &[u8]) -> Moved
     ensures { result ≡ start_of answer.now }
 {
-    Sender::discovered(answer)
+    Moved::of(Sender::discovered(answer), Sender::stopped())
 }
 
 // Offers a message, which then waits; 37, 36 where four wait, 31. Refused, the sender is unchanged.
 pub fn charkhavo_offer(sender: Sender, message: &[u8]) -> Moved
     ensures { result ≡ offer_of sender message.now }
 {
-    sender::offer(sender, message)
+    Moved::of(sender.offer(message), sender)
 }
 
 // Whether a message that waits and is not answered may go out, and how long it is: 37, 30, 31.
 pub fn charkhavo_send(sender: Sender, message: &[u8]) -> Sending
     ensures { result ≡ sending_of sender message.now }
 {
-    let refusal = sender::send_refusal(sender, message);
-    if refusal.number != 0 {
-        return Sending { refusal, length: 0 };
-    }
-    Sending {
-        refusal,
-        length: message.len(),
+    match sender.send(message) {
+        Ok(part) => Sending {
+            refusal: Refusal::of(Refusal::NONE),
+            length: part.len(),
+        },
+        Err(refusal) => Sending { refusal, length: 0 },
     }
 }
 
@@ -73,5 +71,5 @@ pub fn charkhavo_send(sender: Sender, message: &[u8]) -> Sending
 pub fn charkhavo_take(sender: Sender, message: &[u8], answer: &[u8]) -> Taken
     ensures { result ≡ take_of sender message.now answer.now }
 {
-    sender::take(sender, message, answer)
+    Taken::of(sender.take(message, answer), sender)
 }

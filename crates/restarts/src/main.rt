@@ -42,7 +42,7 @@ impl Life {
     fn new(number: u32) -> Life {
         Life {
             number,
-            sender: Sender::discovered(b"").sender,
+            sender: Sender::stopped(),
             first: 0,
             done: 0,
             carried: 0,

@@ -4,7 +4,6 @@
 #![tactic(auto)]
 
 use initiator::outcome;
-use initiator::outcome::Ending;
 use show::Bytes;
 use std::io;
 
@@ -19,8 +18,8 @@ fn command(rt: &impl Print, answer: &[u8], k: usize) -> io::Result<()> {
     let request = &steps::THREE_READS;
     print!(rt; "command {k}: ")?;
     match outcome::ended(request, answer, k) {
-        Ending::Absent => print!(rt; "absent")?,
-        Ending::Ended(status) => print!(rt; "status {}", u32::from(status))?,
+        None => print!(rt; "absent")?,
+        Some(status) => print!(rt; "status {}", u32::from(status))?,
     }
     let span = outcome::read_span(request, answer, k);
     let data = Bytes(outcome::read_data(request, answer, k));

@@ -1,7 +1,6 @@
 // The sender and its calls, each with a line that says what it gave.
 use header::refusal::Refusal;
-use initiator::sender;
-use initiator::sender::{Moved, Sender};
+use initiator::sender::{Moved, Sender, Taken};
 use std::{fmt, io};
 
 // A refusal, 0 for none.
@@ -55,23 +54,26 @@ impl<P: Print> Run<'_, P> {
     }
 
     pub(crate) fn offers(&mut self, label: &str, message: &[u8]) -> io::Result<()> {
-        self.moves(label, sender::offer(self.sender, message))
+        self.moves(label, Moved::of(self.sender.offer(message), self.sender))
     }
 
     // The answer to the fixed discovery.
     pub(crate) fn discovers(&mut self, label: &str, answer: &[u8]) -> io::Result<()> {
-        self.moves(label, Sender::discovered(answer))
+        let found = Sender::discovered(answer);
+        self.moves(label, Moved::of(found, Sender::stopped()))
     }
 
     // A send: its refusal, and how many bytes it hands back.
     pub(crate) fn sends(&self, label: &str, message: &[u8]) -> io::Result<()> {
-        let refusal = sender::send_refusal(self.sender, message);
-        let bytes = sender::send(self.sender, message).len();
+        let (refusal, bytes) = match self.sender.send(message) {
+            Ok(part) => (Refusal::of(Refusal::NONE), part.len()),
+            Err(refusal) => (refusal, 0),
+        };
         println!(self.rt; "{label}: {}, bytes {bytes}", Number(refusal))
     }
 
     pub(crate) fn takes(&mut self, label: &str, message: &[u8], answer: &[u8]) -> io::Result<()> {
-        let taken = sender::take(self.sender, message, answer);
+        let taken = Taken::of(self.sender.take(message, answer), self.sender);
         self.sender = taken.sender;
         let refusal = Number(taken.refusal);
         println!(self.rt;

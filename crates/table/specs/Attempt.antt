@@ -1,12 +1,10 @@
 -- [13] an attempt: what follows from what an accepted answer tells, whatever it tells. Assumes nothing.
-use Rattle.std.specs.Prelude.{ℕ, zero, suc, Bool, true, false, cond, ◌&&◌, List, get_or}
+use Rattle.std.specs.Prelude.{ℕ, zero, suc, Bool, true, false, cond, ◌&&◌, List, get_or, Option, Some, None}
 use Rattle.word.specs.Words.{same}
 use Rattle.header.specs.Header.{kind_of}
 use Rattle.message.specs.Walk.{read}
 use Rattle.answer.specs.declared.Status.{Status}
 use Rattle.answer.specs.declared.Status.TheVariants.{Ok, Timeout, Error}
-use Rattle.initiator.specs.declared.outcome.Ending.{Ending}
-use Rattle.initiator.specs.declared.outcome.Ending.TheVariants.{Absent, Ended}
 use Rattle.initiator.specs.Outcome.{judged_by, ending_in, data_in}
 use Rattle.layout.specs.declared.Stage.{Stage}
 use Rattle.layout.specs.declared.Stage.TheVariants.{Clear, Rows, Back, Mark}
@@ -17,7 +15,7 @@ use Rattle.table.specs.declared.attempt.Next.TheVariants as next
 
 -- "its outcome is the status and read data of each answered command": of command k, counted from 0
 pub record Told : Type 0 where
-  pub ending : ℕ → Ending
+  pub ending : ℕ → Option Status
   pub words : ℕ → List ℕ
 
 -- as `ended` and `read_data` tell them of an answer to a message
@@ -34,9 +32,9 @@ status_ok Ok = true
 status_ok Timeout = false
 status_ok Error = false
 
-abbrev pub is_ok : Ending → Bool
-is_ok Absent = false
-is_ok (Ended status) = status_ok status
+abbrev pub is_ok : Option Status → Bool
+is_ok None = false
+is_ok (Some status) = status_ok status
 
 -- whether row i, counted from 0, was written, and whether it "came back as sent", word by word
 unfoldable pub wrote_row : Told → ℕ → Bool

@@ -8,7 +8,7 @@ use Rattle.message.specs.Request.{Means}
 use Rattle.message.specs.Walk.{read}
 use Rattle.answer.specs.declared.Status.TheVariants.{Ok}
 use Rattle.initiator.specs.declared.sender.Sender.{Sender}
-use Rattle.initiator.specs.declared.outcome.Ending.TheVariants.{Ended}
+use Rattle.std.specs.Prelude.{Some}
 use Rattle.initiator.specs.Sender.{offer_of}
 use Rattle.layout.specs.declared.Stage.{Stage}
 use Rattle.layout.specs.declared.Stage.TheVariants.{Clear, Rows, Back, Mark}
@@ -28,7 +28,7 @@ came_to rows next (told ∷ more) = came_to rows (next_by rows next told) more
 
 -- command k did not fail; row i, counted from 0, "came back as sent", all eight words
 abbrev pub Well : Told → ℕ → Type 0
-Well told k = told.ending k ≡ Ended Ok
+Well told k = told.ending k ≡ Some Ok
 
 abbrev pub AsSent : List ℕ → Told → ℕ → Type 0
 AsSent rows told i = Well told i × (told.words i ≡ row_of rows i)

@@ -8,7 +8,6 @@ use crate::judging;
 use header::limits;
 use header::refusal::Refusal;
 use initiator::sender::Sender;
-use initiator::{places, sender};
 use layout::{Stage, writing};
 
 // What an attempt comes to.
@@ -43,20 +42,14 @@ impl Attempt {
     pub fn begin(sender: Sender) -> Attempt
         ensures { result ≡ beginning sender }
     {
-        let next = Next::Send(Stage::Clear);
-        if sender.waiting == 0 {
-            return Attempt { sender, next };
-        }
-        let stopped = Sender {
-            next: limits::TAGS as u8,
-            waiting: 0,
-            second: false,
-            third: false,
-            fourth: false,
+        let sender = if sender.waiting == 0 {
+            sender
+        } else {
+            Sender::stopped()
         };
         Attempt {
-            sender: stopped,
-            next,
+            sender,
+            next: Next::Send(Stage::Clear),
         }
     }
 
@@ -66,9 +59,7 @@ impl Attempt {
         ensures { result ≡ due_by self.next (message_fault self start room long) }
     {
         layout::set_up(start, room)?;
-        if !places::sender_ok(self.sender) {
-            return Err(Refusal::of(Refusal::SENDER));
-        }
+        self.sender.checked()?;
         if self.sender.waiting != 0 {
             return Err(Refusal::of(Refusal::OFFERING));
         }
@@ -98,9 +89,10 @@ pub fn message(
     let stage = attempt.due(start, room, out.len())?;
     let tag = u32::from(attempt.sender.next);
     let length = writing::write(out, tag, start, room, rows, stage)?;
-    let moved = sender::offer(attempt.sender, &out[..length]);
+    // never refused: `due` asked all of it
+    let sender = attempt.sender.offer(&out[..length]).unwrap_or(attempt.sender);
     let attempt = Attempt {
-        sender: moved.sender,
+        sender,
         next: attempt.next,
     };
     Ok(Offered { length, attempt })
@@ -116,12 +108,9 @@ pub fn take(
 ) -> Result<Attempt, Refusal>
     ensures { result ≡ answered_of (taken_of attempt message.now answer.now rows.now) }
 {
-    let taken = sender::take(attempt.sender, message, answer);
-    if taken.refusal.number != 0 {
-        return Err(taken.refusal);
-    }
+    let progress = attempt.sender.take(message, answer)?;
     Ok(Attempt {
-        sender: taken.sender,
+        sender: progress.sender,
         next: judging::next_by(message, answer, rows, attempt.next),
     })
 }

@@ -2,40 +2,20 @@
 ghost use Rattle.std.specs.Prelude.{◌≡◌, ◌<◌};
 ghost use Rattle.layout.specs.declared.Stage.TheVariants.{Back, Mark};
 ghost use Rattle.table.specs.declared.attempt.Next.TheVariants.{Send};
-ghost use Rattle.table.specs.Attempt.{status_ok, is_ok, wrote_row, read_row, through, marking, next_of, next_by};
+ghost use Rattle.table.specs.Attempt.{is_ok, wrote_row, read_row, through, marking, next_of, next_by};
 ghost use Rattle.table.specs.Attempt.{told_of};
 ghost use Rattle.table.specs.Comparing.{Compares};
 
 use crate::attempt::Next;
 use answer::Status;
 use initiator::outcome;
-use initiator::outcome::Ending;
 use layout::Stage;
-
-fn status_ok(status: Status) -> bool
-    ensures { result ≡ status_ok status }
-{
-    match status {
-        Status::Ok => true,
-        Status::Timeout => false,
-        Status::Error => false,
-    }
-}
-
-fn is_ok(ending: Ending) -> bool
-    ensures { result ≡ is_ok ending }
-{
-    match ending {
-        Ending::Absent => false,
-        Ending::Ended(status) => status_ok(status),
-    }
-}
 
 // Whether command k ended OK.
 fn ok_at(message: &[u8], answer: &[u8], k: usize) -> bool
     ensures { result ≡ is_ok ((told_of message.now answer.now).ending k) }
 {
-    is_ok(outcome::ended(message, answer, k))
+    matches!(outcome::ended(message, answer, k), Some(Status::Ok))
 }
 
 // Whether a part of an answer is these words.

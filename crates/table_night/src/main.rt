@@ -51,7 +51,7 @@ impl Life {
     fn new(number: u32) -> Life {
         Life {
             number,
-            attempt: Attempt::begin(Sender::discovered(b"").sender),
+            attempt: Attempt::begin(Sender::stopped()),
         }
     }
 

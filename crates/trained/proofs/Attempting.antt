@@ -5,7 +5,8 @@ use mathlib.Core.Path.{◌≡◌, refl, sym, ap, subst, ◌∙◌, fun_ext}
 use mathlib.Core.List.{List, [], ◌∷◌, ◌++◌}
 use native.Mathlib.Omega.{arith}
 use lib.ListN.{length, get_or}
-use Rattle.initiator.specs.declared.outcome.Ending.{Ending}
+use Rattle.std.specs.Prelude.{Option}
+use Rattle.answer.specs.declared.Status.{Status}
 use Rattle.exchange.specs.Outcomes.{Result, Outcome, told}
 use Rattle.exchange.proofs.Codec.{told_at_lem}
 use Rattle.layout.specs.declared.Stage.{Stage}
@@ -15,7 +16,7 @@ use Rattle.table.specs.Attempt.{Told, told_of, next_of, next_by}
 use Rattle.table.specs.Promises.{came_to}
 use Rattle.trained.specs.Attempts.{unanswered, told_by, told_bys, Asks, Attempts}
 
-abbrev telling : (ℕ → Ending) → (ℕ → List ℕ) → Told
+abbrev telling : (ℕ → Option Status) → (ℕ → List ℕ) → Told
 telling ending words = record { ending = ending; words = words }
 
 pub told_same : (message answer : List ℕ) → told_of message answer ≡ told_by (told message answer)

@@ -14,14 +14,13 @@ use Rattle.header.specs.declared.Kind.TheVariants.{Write, Read}
 use Rattle.header.specs.Header.{number_of, kind_of}
 use Rattle.message.specs.Request.{Command}
 use Rattle.message.specs.Walk.{request_of}
+use Rattle.answer.specs.declared.Status.{Status}
 use Rattle.answer.specs.declared.Status.TheVariants.{Ok, Timeout, Error}
 use Rattle.memory.specs.Moves.{fails, moves_of, moves, after_moves}
 use Rattle.memory.proofs.Laws.Moving.{after_none, length-after, command-quiet}
 use Rattle.memory.proofs.Laws.LastWrite.{stores-other}
 use Rattle.memory.proofs.Laws.Promises.{moves-none, memory-by}
-use Rattle.initiator.specs.declared.outcome.Ending.{Ending}
-use Rattle.initiator.specs.declared.outcome.Ending.TheVariants.{Absent}
-use Rattle.initiator.specs.declared.outcome.Ending.TheVariants as outcome
+use Rattle.std.specs.Prelude.{Option, Some, None}
 use Rattle.exchange.specs.Outcomes.{Outcome, outcome_over}
 use Rattle.layout.specs.declared.Stage.{Stage}
 use Rattle.layout.specs.declared.Stage.TheVariants.{Clear, Rows, Back, Mark}
@@ -58,11 +57,11 @@ did-is {start} {rows} {stage} {d} a told m =
     ∙ ap (λ (cs : List Command). did_from (kind_at stage) 0 cs told m) (asks-commands a)
 
 -- what ended otherwise than in OK was not carried out
-failed-not : (e : Ending) → is_ok e ≡ false → carried_out e ≡ false
-failed-not Absent w = w
-failed-not (outcome.Ended Ok) w = w
-failed-not (outcome.Ended Timeout) w = w
-failed-not (outcome.Ended Error) w = w
+failed-not : (e : Option Status) → is_ok e ≡ false → carried_out e ≡ false
+failed-not None w = w
+failed-not (Some Ok) w = w
+failed-not (Some Timeout) w = w
+failed-not (Some Error) w = w
 
 -- one command: it was carried out, and those behind it were done; or nothing was
 did-first : (kind : Kind) (k : ℕ) (c : Command) (cs : List Command) (told : Told) (m : List ℕ) (P : List ℕ → Type 0)

@@ -11,7 +11,7 @@ use Rattle.message.specs.Request.{Command}
 use Rattle.answer.specs.declared.Status.TheVariants.{Ok}
 use Rattle.memory.specs.Moves.{moves_of, after_moves}
 use Rattle.memory.proofs.Laws.Moving.{length-after, command-quiet}
-use Rattle.initiator.specs.declared.outcome.Ending.TheVariants as outcome
+use Rattle.std.specs.Prelude.{Some}
 use Rattle.exchange.specs.Outcomes.{Result, Outcome, outcome_over}
 use Rattle.layout.specs.declared.Stage.{Stage}
 use Rattle.layout.specs.declared.Stage.TheVariants.{Clear, Rows, Back, Mark}
@@ -68,7 +68,7 @@ module _ (start : ℕ) (rows : List ℕ) (z : start % 4 ≡ 0) where
       later = outcome_from Write m' (each_from (row_write start rows) (suc i) n)
 
       is : Result
-      is = record { ending = outcome.Ended Ok; words = [] }
+      is = record { ending = Some Ok; words = [] }
 
       first : outcome_from Write m (each_from (row_write start rows) i (suc n)) ≡ is ∷ later
       first =
@@ -81,7 +81,7 @@ module _ (start : ℕ) (rows : List ℕ) (z : start % 4 ≡ 0) where
 
   -- the reads of rows
   abbrev told : List ℕ → Result
-  told words = record { ending = outcome.Ended Ok; words = words }
+  told words = record { ending = Some Ok; words = words }
 
   abbrev read : List ℕ → ℕ → Result
   read m k = told (take 8 (drop (start / 4 + 8 * k) m))

@@ -3,7 +3,7 @@ use Rattle.std.specs.Prelude.{ℕ, ◌<◌, ◌≡◌, List, [], ◌∷◌, get_
 use Rattle.header.specs.Limits.{tag_count}
 use Rattle.message.specs.Request.{Means}
 use Rattle.message.specs.Walk.{read}
-use Rattle.initiator.specs.declared.outcome.Ending.TheVariants.{Absent}
+use Rattle.std.specs.Prelude.{None}
 use Rattle.exchange.specs.Outcomes.{Result, Outcome}
 use Rattle.layout.specs.declared.Stage.{Stage}
 use Rattle.layout.specs.Layout.{request_at}
@@ -13,7 +13,7 @@ use Rattle.table.specs.Attempt.{Told, next_of}
 
 -- what an outcome tells of command k: nothing of one that was not answered
 abbrev pub unanswered : Result
-unanswered = record { ending = Absent; words = [] }
+unanswered = record { ending = None; words = [] }
 
 abbrev pub told_by : Outcome → Told
 told_by o = record { ending = λ k. (get_or o k unanswered).ending; words = λ k. (get_or o k unanswered).words }

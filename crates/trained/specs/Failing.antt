@@ -5,11 +5,10 @@ use Rattle.header.specs.declared.Kind.{Kind}
 use Rattle.header.specs.Header.{kind_of}
 use Rattle.message.specs.Request.{Command}
 use Rattle.message.specs.Walk.{request_of}
+use Rattle.answer.specs.declared.Status.{Status}
 use Rattle.answer.specs.declared.Status.TheVariants.{Ok, Timeout, Error}
 use Rattle.memory.specs.Moves.{moves_of, after_moves, memory_after}
-use Rattle.initiator.specs.declared.outcome.Ending.{Ending}
-use Rattle.initiator.specs.declared.outcome.Ending.TheVariants.{Absent}
-use Rattle.initiator.specs.declared.outcome.Ending.TheVariants as outcome
+use Rattle.std.specs.Prelude.{Option, Some, None}
 use Rattle.exchange.specs.Outcomes.{Outcome, outcome_over}
 use Rattle.layout.specs.declared.Stage.TheVariants.{Clear}
 use Rattle.layout.specs.Layout.{set_up_fault}
@@ -20,11 +19,11 @@ use Rattle.trained.specs.Loading.{mark_in}
 use Rattle.trained.specs.Attempts.{told_by, told_bys, Attempts}
 
 -- whether a command was carried out, by a true outcome: only where it ended in OK, not in Timeout either
-abbrev pub carried_out : Ending → Bool
-carried_out Absent = false
-carried_out (outcome.Ended Ok) = true
-carried_out (outcome.Ended Timeout) = false
-carried_out (outcome.Ended Error) = false
+abbrev pub carried_out : Option Status → Bool
+carried_out None = false
+carried_out (Some Ok) = true
+carried_out (Some Timeout) = false
+carried_out (Some Error) = false
 
 -- what commands did to memory, by a true outcome: those up to the first that was not carried out, and no other; the
 -- first of these is command k

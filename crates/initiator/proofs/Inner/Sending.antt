@@ -18,12 +18,11 @@ use Rattle.message.proofs.Laws.Going.{read_first}
 use Rattle.answer.specs.Answer.{Answered, judge}
 use Rattle.answer.proofs.Laws.Looking.{Some, judge-some}
 use Rattle.initiator.specs.declared.sender.Sender.{Sender}
-use Rattle.initiator.specs.declared.outcome.Outcome.{Outcome}
-use Rattle.initiator.specs.Asking.{plainly, asked_as, asking_of, refusal_of}
-use Rattle.initiator.specs.Outcome.{judged_in, judged_by, told_of}
+use Rattle.initiator.specs.Asking.{plainly, asked_as, asking_of}
+use Rattle.initiator.specs.Outcome.{judged_in, judged_by}
 use Rattle.initiator.specs.Places.{most, sender_ok, has_room, place_in, waits_for, new_tag, with_one}
 use Rattle.initiator.specs.Sender.{offering, sending, offered_by, offer_of, send_of, send_fault, accepted_at, refused_take, taken_by, take_of}
-use Rattle.initiator.proofs.Laws.Asked.{refusal-told, plainly-reads, plainly-some, as-reads, as_fits, as_some}
+use Rattle.initiator.proofs.Laws.Asked.{plainly-reads, plainly-some, as-reads, as_fits, as_some}
 use Rattle.initiator.proofs.Laws.Places.{room-few}
 
 -- a message that may be sent: its sender's record is allowed, it waits there and is not answered, and it was read as it is
@@ -65,6 +64,24 @@ offers s message q e = go (sender_ok s) refl (has_room s) refl e
         let p = as-reads (eqb (new_tag s)) (read message) q x in
         record { ok = z; room = room-few s w; is = (plainly-reads (read message) q p).is; tag = sym (eqb-true _ _ (as_fits (eqb (new_tag s)) (read message) q x)) }
 
+-- each check is a line of its definition
+module _ (s : Sender) (message : List ℕ) where
+  pub offering-stopped : sender_ok s ≡ false → offering s message ≡ Refused (refusal 37)
+  unfolding offering
+  offering-stopped e = rw e
+
+  pub offering-full : sender_ok s ≡ true → has_room s ≡ false → offering s message ≡ Refused (refusal 36)
+  unfolding offering
+  offering-full e f = rw (e, f)
+
+  pub offering-asks : sender_ok s ≡ true → has_room s ≡ true → offering s message ≡ asked_as (eqb (new_tag s)) (read message)
+  unfolding offering
+  offering-asks e f = rw (e, f)
+
+  pub sending-stopped : sender_ok s ≡ false → sending s message ≡ Refused (refusal 37)
+  unfolding sending
+  sending-stopped e = rw e
+
 -- no refusal of sending is 0: so number 0 is none
 sending-some : (s : Sender) (message : List ℕ) → Some (sending s message)
 unfolding sending
@@ -83,6 +100,13 @@ offering-some s message = go (sender_ok s) (has_room s)
     go false b = omega arith
     go true false = omega arith
     go true true = as_some (eqb (new_tag s)) (read message)
+
+pub judged-some : (s : Sender) (message answer : List ℕ) → Some (judged_in (sending s message) answer)
+judged-some s message answer = go (sending s message) (sending-some s message)
+  where
+    go : (p : Reading Request) → Some p → Some (judged_in p answer)
+    go (Refused r) h = h
+    go (Means q) h = judge-some q answer
 
 pub some-means : {A : Type 0} (p : Reading A) → Some p → (refusal_in p).number ≡ 0 → (a : A) × (p ≡ Means a)
 some-means (Refused r) h e = absurd (omega arith)
@@ -162,16 +186,7 @@ module _ (s : Sender) (message : List ℕ) where
   unfolding send_of
   send-taken q e = rw e
 
-  pub send-fault : refusal_of (asking_of (sending s message)) ≡ send_fault s message
-  unfolding send_fault
-  send-fault = refusal-told (sending s message)
-
 -- refused before the answer is looked at
 pub take_own : (s : Sender) (message answer : List ℕ) (r : Refusal) → sending s message ≡ Refused r → refused_take s r ≡ take_of s message answer
 unfolding take_of
 take_own s message answer r e = rw e
-
--- the refusal that is told
-pub told-refusal : (kind : Kind) (k : ℕ) (p : Reading (List Answered)) {o : Outcome} → o ≡ told_of kind k p → o.refusal ≡ refusal_in p
-unfolding told_of
-told-refusal kind k p e = ap (λ (o : Outcome). o.refusal) e

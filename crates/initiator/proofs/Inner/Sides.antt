@@ -15,20 +15,18 @@ use Rattle.header.specs.declared.Kind.{Kind}
 use Rattle.header.specs.declared.refusal.Refusal.{Refusal}
 use Rattle.header.specs.Limits.{limit, limit_bytes}
 use Rattle.header.specs.Header.{kind_of, count_of, body_words}
-use Rattle.header.specs.Refusal.{refusal}
-use Rattle.message.specs.Request.{Command, Reading, Refused, Means, before, none}
+use Rattle.message.specs.Request.{Command, Reading, Refused, Means, before, none, given}
 use Rattle.message.specs.Walk.{read}
 use Rattle.message.proofs.Laws.Back.{written_read}
 use Rattle.message.proofs.Laws.Standing.{Stands, Next, stands-starts, stands-next}
 use Rattle.answer.specs.declared.Status.{Status}
 use Rattle.answer.specs.declared.Seen.{Seen}
-use Rattle.std.specs.Prelude.{Result, Ok, Err}
 use Rattle.answer.specs.Answer.{Answered, look_at, look_turn, answers_from}
 use Rattle.answer.proofs.Laws.Looking.{looked, Found, found}
-use Rattle.initiator.specs.declared.outcome.Ending.TheVariants.{Absent, Ended}
+use Rattle.std.specs.Prelude.{None, Some, Ok, Err, Result}
 use Rattle.initiator.specs.declared.outcome.Outcome.{Outcome}
-use Rattle.initiator.specs.Outcome.{ending_at, part_of, part_at, told_of}
-use Rattle.initiator.specs.Telling.{refused_with, with_item, look_beside, Ready, answers_to}
+use Rattle.initiator.specs.Outcome.{ending_at, part_of, part_at, empty, told_of}
+use Rattle.initiator.specs.Telling.{counting, with_item, look_beside, Ready, answers_to}
 
 module _ (k : ℕ) (kind : Kind) where
   -- what was told, with the answers still to come, the first of them at word `back`
@@ -36,13 +34,12 @@ module _ (k : ℕ) (kind : Kind) where
   gather back told [] = told
   gather back told (a ∷ more) = gather (back + 1 + length a.payload) (with_item told k kind back a.status (length a.payload)) more
 
-  pub gathered : ℕ → Outcome → Reading (List Answered) → Outcome
-  gathered back told (Refused r) = refused_with r
-  gathered back told (Means items) = gather back told items
+  pub gathered : ℕ → Outcome → Reading (List Answered) → Result Outcome Refusal
+  gathered back told p = given (gather back told) p
 
   -- past command k, only the count moves
   after : (items : List Answered) (back : ℕ) (told : Outcome) → k < told.count
-      → gather back told items ≡ record { refusal = told.refusal; count = told.count + length items; ending = told.ending; start = told.start; end = told.end }
+      → gather back told items ≡ record { count = told.count + length items; ending = told.ending; part = told.part }
   unfolding gather with_item
   after [] back told h = rw (add-zero told.count)
   after (a ∷ more) back told h =
@@ -50,13 +47,13 @@ module _ (k : ℕ) (kind : Kind) where
       rw (ne_eqb told.count k (omega arith)) (after more _ _ (omega arith) ∙ rw e)
 
 -- nothing told yet of command k
-abbrev blank : ℕ → Outcome
-blank i = record { refusal = refusal 0; count = i; ending = Absent; start = 0; end = 0 }
+abbrev pub blank : ℕ → Outcome
+blank i = record { count = i; ending = None; part = empty }
 
 module _ (kind : Kind) where
   upto : (items : List Answered) (j i back : ℕ)
       → gather (i + j) kind back (blank i) items
-      ≡ record { refusal = refusal 0; count = i + length items; ending = ending_at j items; start = (part_at kind j back items).start; end = (part_at kind j back items).end }
+      ≡ record { count = i + length items; ending = ending_at j items; part = part_at kind j back items }
   unfolding gather with_item ending_at part_at
   upto [] zero i back = rw (add-zero i)
   upto [] (suc j) i back = rw (add-zero i)
@@ -68,13 +65,13 @@ module _ (kind : Kind) where
       let f : i + 1 + length more ≡ i + suc (length more) = omega arith in
       rw (ne_eqb i (i + suc j) (omega arith)) (rw (e, f) at (upto more j (i + 1) (back + 1 + length a.payload)))
 
-  pub gathered-all : (k : ℕ) (p : Reading (List Answered)) → gathered k kind 0 (refused_with (refusal 0)) p ≡ told_of kind k p
+  pub gathered-all : (k : ℕ) (p : Reading (List Answered)) → gathered k kind 0 (blank 0) p ≡ given (told_of kind k) p
   unfolding gathered told_of
   gathered-all k (Refused r) = refl
   gathered-all k (Means items) =
       let z : 0 + k ≡ k = omega arith in
       let n : 0 + length items ≡ length items = omega arith in
-      rw (n, z) at (upto items k 0 0)
+      ap Ok (rw (n, z) at (upto items k 0 0))
 
 -- an answer before those behind it
 gathered-before : (k : ℕ) (kind : Kind) (back : ℕ) (told : Outcome) (a : Answered) (p : Reading (List Answered))
@@ -87,11 +84,7 @@ counts : (told : Outcome) (k : ℕ) (kind : Kind) (at : ℕ) (status : Status) (
 unfolding with_item
 counts told k kind at status count = go (eqb told.count k)
   where
-    go : (b : Bool)
-        → (cond {A = Outcome} b
-        (record { refusal = told.refusal; count = told.count + 1; ending = Ended status; start = (part_of kind status at count).start; end = (part_of kind status at count).end })
-        (record { refusal = told.refusal; count = told.count + 1; ending = told.ending; start = told.start; end = told.end })).count
-        ≡ told.count + 1
+    go : (b : Bool) → (cond b (counting told (Some status) (part_of kind status at count)) (counting told told.ending told.part)).count ≡ told.count + 1
     go true = refl
     go false = refl
 
@@ -100,7 +93,7 @@ split [] e = absurd (false≢true (sym e))
 split (d ∷ ds) e = (d, ds, refl)
 
 -- the loop's place: commands still to come, and the whole
-pub record Sides (asked : List ℕ) (byte0 : ℕ) (ws : List ℕ) (at back k : ℕ) (told whole : Outcome) : Type 0 where
+pub record Sides (asked : List ℕ) (byte0 : ℕ) (ws : List ℕ) (at back k : ℕ) (told : Outcome) (whole : Result Outcome Refusal) : Type 0 where
   pub command : Command
   pub behind : List Command
   pub stands : Stands byte0 asked at (command ∷ behind)
@@ -111,7 +104,7 @@ pub record Sides (asked : List ℕ) (byte0 : ℕ) (ws : List ℕ) (at back k : �
 
 -- an accepted request's first command, and its answers from their first word on
 pub sides-starts : (request answer : List ℕ) (byte0 k : ℕ) → Ready request byte0 → length answer ≤ limit_bytes
-    → Sides (words_of request) byte0 (words_of answer) 0 0 k (refused_with (refusal 0)) (told_of (kind_of byte0) k (answers_to (read request) (words_of answer)))
+    → Sides (words_of request) byte0 (words_of answer) 0 0 k (blank 0) (given (told_of (kind_of byte0) k) (answers_to (read request) (words_of answer)))
 sides-starts request answer byte0 k y h =
     let r = y.meaning in
     let n = split r.commands (written_read request r y.bytes y.is).0.asked.some in
@@ -125,7 +118,7 @@ sides-starts request answer byte0 k y h =
       same = rw (y.is, ← n.2, y.first) (gathered-all (kind_of r.byte0) k (answers_from r.byte0 0 r.commands (words_of answer)));
     }
 
-module _ {asked : List ℕ} {byte0 : ℕ} {ws : List ℕ} {at back k : ℕ} {told whole : Outcome} (g : Sides asked byte0 ws at back k told whole) where
+module _ {asked : List ℕ} {byte0 : ℕ} {ws : List ℕ} {at back k : ℕ} {told : Outcome} {whole : Result Outcome Refusal} (g : Sides asked byte0 ws at back k told whole) where
   pub next : Next byte0 asked at g.command g.behind
   next = stands-next byte0 asked at g.command g.behind g.stands
 
@@ -139,7 +132,7 @@ module _ {asked : List ℕ} {byte0 : ℕ} {ws : List ℕ} {at back k : ℕ} {tol
       ≡ whole
   on = ap (gathered k (kind_of byte0) back told) (sym (looked byte0 g.command g.behind ws back)) ∙ g.same
 
-  pub sides-bad : (r : Refusal) → look_beside asked ws byte0 at back ≡ Err r → refused_with r ≡ whole
+  pub sides-bad : (r : Refusal) → look_beside asked ws byte0 at back ≡ Err r → Err r ≡ whole
   unfolding gathered
   sides-bad r e = rw (look_is (Err r) e) at on
 
@@ -157,7 +150,7 @@ module _ {asked : List ℕ} {byte0 : ℕ} {ws : List ℕ} {at back k : ℕ} {tol
     turned : gathered k (kind_of byte0) back told (cond s.last (Means (item ∷ [])) (before item (answers_from byte0 (back + 1 + s.count) g.behind (drop (back + 1 + s.count) ws)))) ≡ whole
     turned = rw (look_is (Ok s) e) at on
 
-    pub sides-last : s.last ≡ true → new ≡ whole
+    pub sides-last : s.last ≡ true → Ok new ≡ whole
     unfolding gathered gather
     sides-last l = rw (l, sides-found.long) at turned
 
@@ -180,5 +173,8 @@ module _ {asked : List ℕ} {byte0 : ℕ} {ws : List ℕ} {at back k : ℕ} {tol
 
     -- the same, with the numbers as the code has them
     pub sides-next : {n : ℕ} {o : Outcome} → n ≡ body_words byte0 (count_of (get_or asked at 0)) → o ≡ new → s.last ≡ false
-        → Sides asked byte0 ws (at + 1 + n) (back + 1 + s.count) k o whole
-    sides-next e d l = rw (e, d, next.count) (sides-on l)
+        → Sides asked byte0 ws (at + (1 + n)) (back + (1 + s.count)) k o whole
+    sides-next {n} e d l =
+        let a : at + (1 + n) ≡ at + 1 + n = omega arith in
+        let b : back + (1 + s.count) ≡ back + 1 + s.count = omega arith in
+        rw (a, b, e, d, next.count) (sides-on l)

@@ -8,27 +8,27 @@ use lib.ListN.{get_or}
 use Rattle.header.specs.declared.refusal.Refusal.{Refusal}
 use Rattle.header.specs.Header.{tag_of, discovery_of}
 use Rattle.header.specs.Refusal.{refused_at, refusal}
-use Rattle.message.specs.Request.{Request, Reading, Refused, Means, refusal_in}
+use Rattle.message.specs.Request.{Request, Reading, Refused, Means, refusal_in, given}
 use Rattle.message.specs.Walk.{read}
 use Rattle.message.proofs.Laws.Faults.{no-mean}
 use Rattle.message.proofs.Laws.Going.{read_first}
 use Rattle.answer.proofs.Laws.Looking.{Some}
-use Rattle.initiator.specs.declared.asking.Asking.TheVariants.{Asks, Refused as RefusedAsking}
-use Rattle.initiator.specs.Asking.{plainly, under_tag, asked_as, lets_by, asks_as, asking_of, refusal_of}
+use Rattle.std.specs.Prelude.{Ok, Err}
+use Rattle.initiator.specs.Asking.{plainly, under_tag, asked_as, lets_by, asks_as, asking_of}
 
--- a request that may be asked, by what the functions tell of it
-pub record Found (p : Reading Request) (byte0 : ℕ) : Type 0 where
-  pub request : Request
-  pub is : p ≡ Means request
-  pub first : byte0 ≡ request.byte0
+-- what a function gave back of a reading: a value of its meaning, or its refusal
+pub record Given {A B : Type 0} (f : A → B) (p : Reading A) (b : B) : Type 0 where
+  pub value : A
+  pub is : p ≡ Means value
+  pub gives : b ≡ f value
 
-pub asks-found : (p : Reading Request) (byte0 : ℕ) → asking_of p ≡ Asks byte0 → Found p byte0
-asks-found (Refused r) byte0 e = let z : ◌≡◌ {A = ℕ} 0 1 = cc in absurd (omega arith)
-asks-found (Means q) byte0 e = record { request = q; is = refl; first = cc }
+pub given-ok : {A B : Type 0} (f : A → B) (p : Reading A) {b : B} → given f p ≡ Ok b → Given f p b
+given-ok f (Refused r) e = absurd cc
+given-ok f (Means a) e = record { value = a; is = refl; gives = cc }
 
-pub asks-refused : (p : Reading Request) (r : Refusal) → asking_of p ≡ RefusedAsking r → p ≡ Refused r
-asks-refused (Refused q) r e = let i : q ≡ r = cc in ap Refused i
-asks-refused (Means q) r e = let z : ◌≡◌ {A = ℕ} 0 1 = cc in absurd (omega arith)
+pub given-err : {A B : Type 0} (f : A → B) (p : Reading A) {r : Refusal} → given f p ≡ Err r → p ≡ Refused r
+given-err f (Refused q) {r} e = let i : q ≡ r = cc in ap Refused i
+given-err f (Means a) e = absurd cc
 
 -- its tag aside
 pub plainly-wrong : (p : Reading Request) (r : Refusal) → p ≡ Refused r → plainly p ≡ Refused (refused_at 31 r.at)
@@ -54,20 +54,16 @@ plainly-reads (Means m) q e = go (discovery_of m.byte0) refl e
     go false d x = let i : m ≡ q = cc in record { is = x; clear = ap (λ (r : Request). discovery_of r.byte0) (sym i) ∙ d }
 
 -- by the walk
-pub ask-refused : (p : Reading Request) (r : Refusal) → p ≡ Refused r → RefusedAsking (refused_at 31 r.at) ≡ asking_of (plainly p)
+pub ask-refused : (p : Reading Request) (r : Refusal) → p ≡ Refused r → Err (refused_at 31 r.at) ≡ asking_of (plainly p)
 ask-refused p r e = rw (plainly-wrong p r e)
 
 pub ask-plain : (p : Reading Request) (q : Request) {byte0 : ℕ} → p ≡ Means q → byte0 ≡ q.byte0
-    → cond (discovery_of byte0) (RefusedAsking (refusal 31)) (Asks byte0) ≡ asking_of (plainly p)
+    → cond (discovery_of byte0) (Err (refusal 31)) (Ok byte0) ≡ asking_of (plainly p)
 ask-plain p q {byte0} e f = rw (plainly-means p q e, f) (go (discovery_of q.byte0))
   where
-    go : (b : Bool) → cond b (RefusedAsking (refusal 31)) (Asks q.byte0) ≡ asking_of (cond b (Refused (refusal 31)) (Means q))
+    go : (b : Bool) → cond b (Err (refusal 31)) (Ok q.byte0) ≡ asking_of (cond b (Refused (refusal 31)) (Means q))
     go true = refl
     go false = refl
-
-pub refusal-told : (p : Reading Request) → refusal_of (asking_of p) ≡ refusal_in p
-refusal-told (Refused r) = refl
-refusal-told (Means q) = refl
 
 -- no refusal of it is 0
 pub plainly-some : (p : Reading Request) → Some (plainly p)
@@ -90,14 +86,14 @@ module _ (fits : ℕ → Bool) (p : Reading Request) where
   as-means q e = rw e
 
   -- what the function tells of it
-  pub as-refused : (r : Refusal) → plainly p ≡ Refused r → RefusedAsking r ≡ asking_of (asked_as fits p)
+  pub as-refused : (r : Refusal) → plainly p ≡ Refused r → Err r ≡ asking_of (asked_as fits p)
   as-refused r e = rw (as-wrong r e)
 
   module _ (q : Request) {byte0 : ℕ} (e : plainly p ≡ Means q) (f : byte0 ≡ q.byte0) where
-    pub as-other : fits (tag_of byte0) ≡ false → RefusedAsking (refusal 31) ≡ asking_of (asked_as fits p)
+    pub as-other : fits (tag_of byte0) ≡ false → Err (refusal 31) ≡ asking_of (asked_as fits p)
     as-other t = let u : fits (tag_of q.byte0) ≡ false = ap (λ (n : ℕ). fits (tag_of n)) (sym f) ∙ t in rw (as-means q e, u)
 
-    pub as_own : fits (tag_of byte0) ≡ true → Asks byte0 ≡ asking_of (asked_as fits p)
+    pub as_own : fits (tag_of byte0) ≡ true → Ok byte0 ≡ asking_of (asked_as fits p)
     as_own t = let u : fits (tag_of q.byte0) ≡ true = ap (λ (n : ℕ). fits (tag_of n)) (sym f) ∙ t in rw (as-means q e, u, f)
 
   pub as-reads : (q : Request) → asked_as fits p ≡ Means q → plainly p ≡ Means q

@@ -3,6 +3,7 @@ use Prim.Native.Nat.{ℕ, zero, suc}
 use mathlib.Core.Path.{◌≡◌, refl, ◌∙◌}
 use mathlib.Core.Bool.{false}
 use mathlib.Core.List.{List, [], ◌∷◌, ◌++◌}
+use Rattle.std.specs.Prelude.{Some, None}
 use lib.ListN.{length}
 use lib.Seq.{take_at, drop_at}
 use Rattle.word.specs.Words.{Bytes, Words}
@@ -18,7 +19,6 @@ use Rattle.answer.specs.declared.Status.TheVariants.{Ok, Timeout, Error}
 use Rattle.answer.specs.Answer.{Answered, answer_byte, answer_words, judge}
 use Rattle.answer.proofs.Laws.Accepts.{encode-judged, answers-words}
 use Rattle.answer.proofs.Laws.Giving.{answered-is, answer-more}
-use Rattle.initiator.specs.declared.outcome.Ending.TheVariants.{Absent, Ended}
 use Rattle.initiator.specs.Asking.{plainly}
 use Rattle.initiator.specs.Outcome.{judged_in, judged_by, ending_at, data_of, data_at, data_in}
 use Rattle.initiator.proofs.Laws.Asked.{plainly-means, plainly-reads}
@@ -31,7 +31,7 @@ judged-plain r answer e =
     rw p
 
 -- where no command was answered, none ended, and there are no data
-pub ending-none : (k : ℕ) → ending_at k [] ≡ Absent
+pub ending-none : (k : ℕ) → ending_at k [] ≡ None
 unfolding ending_at
 ending-none k = refl
 
@@ -41,7 +41,7 @@ data-none kind k = refl
 
 -- how the first command ended, and its data; and those behind it
 module _ (a : Answered) (more : List Answered) where
-  pub ending-first : ending_at 0 (a ∷ more) ≡ Ended a.status
+  pub ending-first : ending_at 0 (a ∷ more) ≡ Some a.status
   unfolding ending_at
   ending-first = refl
 

@@ -2,11 +2,13 @@
 -- cite these. Assumes nothing.
 use Prim.Native.Nat.{ℕ, zero, suc, ◌+◌, ◌-◌, ◌%◌, ◌≤◌, ◌<◌}
 use mathlib.Core.Path.{◌≡◌, refl, sym, ap, ◌∙◌}
+use mathlib.Core.Logic.{◌⊎◌, inl, inr}
 use mathlib.Core.Bool.{Bool, true, false, not, ◌&&◌, ◌||◌, and-eq-true_iff}
 use native.Mathlib.Omega.{arith}
 use native.Mathlib.Nat.{zero-add}
 use borrow.Author.Tests.{ltb-true, ltb-false, leb-true, lt-ltb, le-ltb, le-leb, ne_eqb}
 use lib.Dec.{ltb, leb, eqb}
+use Rattle.word.proofs.Rules.{tests}
 use Rattle.header.specs.Limits.{tag_count}
 use Rattle.header.specs.Refusal.{unless}
 use Rattle.initiator.specs.declared.sender.Sender.{Sender}
@@ -25,6 +27,11 @@ module _ (s : Sender) where
   pub ok-is : s.next < tag_count → s.waiting ≤ most → sender_ok s ≡ true
   unfolding sender_ok
   ok-is n w = rw (lt-ltb s.next tag_count n, le-leb s.waiting most w)
+
+  pub ok-not : tag_count ≤ s.next ⊎ ((s.next < tag_count) × (most < s.waiting)) → sender_ok s ≡ false
+  unfolding sender_ok
+  ok-not (inl n) = search tests
+  ok-not (inr w) = search tests
 
   -- 36
   pub room-few : has_room s ≡ true → s.waiting < most

@@ -23,8 +23,7 @@ use Rattle.answer.proofs.Laws.Heads.{answer-tag, answer-discovery}
 use Rattle.initiator.specs.declared.sender.Sender.{Sender}
 use Rattle.initiator.specs.declared.sender.Moved.{Moved}
 use Rattle.initiator.specs.declared.sender.Taken.{Taken}
-use Rattle.initiator.specs.declared.outcome.Outcome.{Outcome}
-use Rattle.initiator.specs.Outcome.{judged_in, judged_by, told_of, outcome_of}
+use Rattle.initiator.specs.Outcome.{judged_in, judged_by, outcome_of}
 use Rattle.initiator.specs.Asking.{plainly, under_tag, asked_as}
 use Rattle.initiator.specs.Places.{sender_ok, has_room, place_in, waits_for, new_tag, with_one, marked, ending_of, without}
 use Rattle.initiator.specs.Sender.{offering, sending, offered_by, offer_of, send_fault, accepted_at, taken_by, take_of, start_of}
@@ -227,7 +226,7 @@ where-refused message n at e =
       offer = λ s l w. rw (ok-is s l (omega arith), room-is s w, ask-where (eqb (new_tag s)) message n at e);
       send = λ s l o w. rw (send-where s message n at e l o w);
       take = λ s answer l o w. rw (send-where s message n at e l o w);
-      told = λ answer k. ap (λ (o : Outcome). o.refusal) (sym (told-refused message answer k (refused_at 31 at) (plainly-wrong (read message) (refused_at n at) e)));
+      told = λ answer k. sym (told-refused message answer k (refused_at 31 at) (plainly-wrong (read message) (refused_at n at) e));
     }
 
 -- and no other refusal has one
@@ -261,7 +260,7 @@ others-give-zero message r e s =
 
 -- and 32 to 35 are handed on as they are
 pub hands_on : (answer : List ℕ) (r : Refusal) → HandsOn answer r
-unfolding outcome_of told_of start_of
+unfolding outcome_of start_of
 hands_on answer r =
     record {
       take = λ s message e j. ap (λ (m : Taken). m.refusal) (take-judged s message answer e ∙ ap (taken_by s (place s message answer)) j);

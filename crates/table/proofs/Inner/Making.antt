@@ -14,8 +14,10 @@ use Rattle.header.specs.Limits.{limit_bytes, tag_count}
 use Rattle.header.specs.Refusal.{refusal}
 use Rattle.header.proofs.Laws.Refusal.{ok_of, err_of}
 use Rattle.message.specs.Request.{written}
-use Rattle.initiator.specs.declared.sender.Moved.{Moved}
-use Rattle.initiator.specs.Sender.{offer_of}
+use Rattle.std.specs.Result.{result_unwrap_or}
+use Rattle.initiator.specs.declared.sender.Sender.{Sender}
+use Rattle.initiator.specs.Sender.{offer_by}
+use Rattle.initiator.proofs.Laws.Checked.{offer-or-kept}
 use Rattle.initiator.proofs.Laws.Places.{ok-next}
 use Rattle.layout.specs.declared.Stage.{Stage}
 use Rattle.layout.specs.Writing.{length_of}
@@ -119,10 +121,10 @@ module _ (a : Attempt) (start room : ℕ) (rows out : List ℕ) where
       pub fits : n ≤ length out'
       fits = rw (out-is, length-put out 0 m (omega (arith, within))) (omega (arith, length-is, within))
 
-      pub makes : {moved : Moved} → moved ≡ offer_of a.sender (take n out')
-          → Makes (Ok (record { length = n; attempt = attempt_at moved.sender a.next })) out'
-      makes {moved} q =
+      pub makes : {sender : Sender} → sender ≡ result_unwrap_or (offer_by a.sender (take n out')) a.sender
+          → Makes (Ok (record { length = n; attempt = attempt_at sender a.next })) out'
+      makes q =
           let z : take n out' ≡ m = rw (length-is, out-is) (put_front out m) in (
-            rw (q, z, length-is, made-fine a start room rows out stage next none) refl,
+            rw (q, z, offer-or-kept a.sender m, length-is, made-fine a start room rows out stage next none) refl,
             out-is ∙ sym (made-to-fine a start room rows out stage next none),
           )

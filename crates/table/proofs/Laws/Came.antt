@@ -9,9 +9,9 @@ use native.Mathlib.Omega.{arith}
 use borrow.Author.Tests.{eqb-true, eqb-false}
 use lib.Dec.{eqb}
 use Rattle.word.proofs.Same.{same-equal}
+use Rattle.answer.specs.declared.Status.{Status}
 use Rattle.answer.specs.declared.Status.TheVariants.{Ok, Timeout, Error}
-use Rattle.initiator.specs.declared.outcome.Ending.{Ending}
-use Rattle.initiator.specs.declared.outcome.Ending.TheVariants.{Absent, Ended}
+use Rattle.std.specs.Prelude.{Option, Some, None}
 use Rattle.layout.specs.declared.Stage.TheVariants.{Clear, Rows, Back, Mark}
 use Rattle.layout.specs.Layout.{row_of, row_count}
 use Rattle.table.specs.declared.attempt.Next.{Next}
@@ -25,11 +25,11 @@ use Rattle.table.proofs.Laws.Attempt.{wrote-is, read_is}
 use Rattle.table.proofs.Laws.Sent.{sent-on}
 
 -- OK is the one ending that is well
-ok-is : (e : Ending) → is_ok e ≡ true → e ≡ Ended Ok
-ok-is Absent h = absurd (false≢true h)
-ok-is (Ended Ok) h = refl
-ok-is (Ended Timeout) h = absurd (false≢true h)
-ok-is (Ended Error) h = absurd (false≢true h)
+ok-is : (e : Option Status) → is_ok e ≡ true → e ≡ Some Ok
+ok-is None h = absurd (false≢true h)
+ok-is (Some Ok) h = refl
+ok-is (Some Timeout) h = absurd (false≢true h)
+ok-is (Some Error) h = absurd (false≢true h)
 
 -- a test of which the truth is known
 not_on : (t : Bool) → (t ≡ true → ⊥) → t ≡ false

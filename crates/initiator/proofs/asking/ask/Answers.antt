@@ -5,12 +5,9 @@ use Rattle.initiator.proofs.Laws.Asked.{ask-refused, ask-plain}
 use Rattle.initiator.proofs.asking.ask.Goals as goal
 
 pub returns-in-Err : goal.returns-in-Err
-returns-in-Err c =
-    let w = c.before in
-    ask-refused _ _ (walk-wrong _ _ (sym w.walk.ensures ∙ w.in-Err.is))
+returns-in-Err c = ask-refused _ _ (walk-wrong _ _ (sym c.walk.ensures ∙ c.in-Err.is))
 
 pub returns-in-Ok : goal.returns-in-Ok
 returns-in-Ok c =
-    let w = c.before.before in
-    let m = walk-means _ _ (sym w.walk.ensures ∙ w.in-Ok.is) in
+    let m = walk-means _ _ (sym c.walk.ensures ∙ c.in-Ok.is) in
     c.plain.ensures ∙ ask-plain _ _ m.is m.first

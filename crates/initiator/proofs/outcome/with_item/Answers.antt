@@ -3,10 +3,10 @@ use borrow.Author.Tests.{eq-eqb, ne_eqb}
 use Rattle.initiator.specs.Telling.{with_item}
 use Rattle.initiator.proofs.outcome.with_item.Goals as goal
 
-pub returns-then-count-k : goal.returns-then-count-k
+pub returns-then-told-k : goal.returns-then-told-k
 unfolding with_item
-returns-then-count-k c = simp (eq-eqb _ _ c.if-count-k.true, c.part_of-part.ensures, c.kind_of.ensures)
+returns-then-told-k c = simp (ne_eqb _ _ c.if-told-k.true)
 
 pub returns : goal.returns
 unfolding with_item
-returns c = simp (ne_eqb _ _ c.if-count-k.false)
+returns c = simp (eq-eqb _ _ c.if-told-k.false, c.part_of.ensures)

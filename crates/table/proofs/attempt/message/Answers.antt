@@ -32,4 +32,4 @@ slice_bounds-offer-end-2 c =
 pub returns : goal.returns
 returns c =
     let a = c.args in
-    makes a.attempt a.start a.room a.rows.now a.out.now c.in_ok-stage.ensures (search rules) c.in_ok-length.ensures.0 c.write.ensures.1 c.offer-moved.ensures
+    makes a.attempt a.start a.room a.rows.now a.out.now c.in_ok-stage.ensures (search rules) c.in_ok-length.ensures.0 c.write.ensures.1 (rw c.offer.ensures at c.unwrap_or-sender.ensures)

@@ -7,7 +7,7 @@ use native.Mathlib.Omega.{arith}
 use borrow.Author.Tests.{le-leb, lt-leb}
 use lib.Dec.{eqb}
 use Rattle.std.proofs.Common.{Ok, Err, rules}
-use Rattle.word.proofs.Rules.{tests, flag-on, flag_off}
+use Rattle.word.proofs.Rules.{tests}
 use Rattle.header.specs.Refusal.{refusal, as_result}
 use Rattle.header.proofs.Laws.Refusal.{ok_of, err_of}
 use Rattle.layout.specs.Layout.{set_up_ok, set_up_fault}
@@ -38,14 +38,16 @@ returns-in_err-set_up c =
     rw (e, k.0, set-up-refused a.start a.room o, o, due-refused a.self.next {number = 40} (λ z. omega arith)) refl
 
 -- 37
-pub returns-then-not-sender_ok : goal.returns-then-not-sender_ok
+pub returns-in_err-checked : goal.returns-in_err-checked
 unfolding message_fault
-returns-then-not-sender_ok c =
+returns-in_err-checked c =
     let a = c.args in
+    let e : c.from_residual-in_err-checked.result ≡ Err c.in_err-checked.field-0.0 = search rules in
     rw (
-      c.of.ensures,
+      e,
+      c.in_err-checked.ensures.0,
       set a.start a.room c.in_ok-set_up.ensures,
-      flag_off c.sender_ok.ensures c.if-not-sender_ok.true,
+      c.in_err-checked.ensures.1,
       due-refused a.self.next {number = 37} (λ z. omega arith),
     ) refl
 
@@ -56,9 +58,9 @@ returns-then-self-ne0 c =
     let a = c.args in
     let w : At-36 a.self.sender.waiting = search tests in
     rw (
-      c.of-then-self-ne0.ensures,
+      c.of.ensures,
       set a.start a.room c.in_ok-set_up.ensures,
-      flag-on c.sender_ok.ensures c.if-not-sender_ok.false,
+      c.in_ok-checked.ensures.1,
       w,
       due-refused a.self.next {number = 36} (λ z. omega arith),
     ) refl
@@ -72,7 +74,7 @@ returns-in_default c =
     rw (
       c.of-in_default.ensures,
       set a.start a.room c.in_ok-set_up.ensures,
-      flag-on c.sender_ok.ensures c.if-not-sender_ok.false,
+      c.in_ok-checked.ensures.1,
       w,
       unsent a.self.next c.in_default.not-Send,
       due-refused a.self.next {number = 30} (λ z. omega arith),
@@ -87,7 +89,7 @@ returns-then-long-lt-LIMIT_BYTES c =
     rw (
       c.of-then-long-lt-LIMIT_BYTES.ensures,
       set a.start a.room c.in_ok-set_up.ensures,
-      flag-on c.sender_ok.ensures c.if-not-sender_ok.false,
+      c.in_ok-checked.ensures.1,
       w,
       c.in-Send.is,
       lt-leb _ _ c.if-long-lt-LIMIT_BYTES.true,
@@ -100,7 +102,7 @@ returns c =
     let w : Past-36 a.self.sender.waiting = search tests in
     rw (
       set a.start a.room c.in_ok-set_up.ensures,
-      flag-on c.sender_ok.ensures c.if-not-sender_ok.false,
+      c.in_ok-checked.ensures.1,
       w,
       c.in-Send.is,
       le-leb _ _ c.if-long-lt-LIMIT_BYTES.false,

@@ -1,7 +1,0 @@
--- `initiator::places::marked` meets its contract: place by place. Assumes nothing.
-use Rattle.initiator.specs.Places.{marked}
-use Rattle.initiator.proofs.places.marked.Goals as goal
-
-pub returns : goal.returns
-unfolding marked
-returns c = rw (c.this_or_answered.ensures, c.this_or_answered-2.ensures, c.this_or_answered-3.ensures)
