@@ -1,10 +1,8 @@
 // What an accepted answer makes of an attempt.
-ghost use Rattle.std.specs.Prelude.{◌≡◌, ◌<◌};
-ghost use Rattle.layout.specs.declared.Stage.TheVariants.{Back, Mark};
-ghost use Rattle.table.specs.declared.attempt.Next.TheVariants.{Send};
-ghost use Rattle.table.specs.Attempt.{is_ok, wrote_row, read_row, through, marking, next_of, next_by};
+ghost use Rattle.std.specs.Prelude.{◌≡◌, ◌<◌, ℕ};
+ghost use Rattle.table.specs.Attempt.{is_ok, read_row, marking, next_of, next_by};
 ghost use Rattle.table.specs.Attempt.{told_of};
-ghost use Rattle.table.specs.Comparing.{Compares};
+ghost use Rattle.table.specs.Comparing.{Compares, Goes};
 
 use crate::attempt::Next;
 use answer::Status;
@@ -25,12 +23,10 @@ fn same_words(part: &[u8], row: &[u32]) -> bool
     if part.len() / 4 != row.len() {
         return false;
     }
-    let mut j: usize = 0;
-    while j < row.len() {
+    for j in 0..row.len() {
         if word::word_at(part, j) != row[j] {
             return false;
         }
-        j += 1;
     }
     true
 }
@@ -43,12 +39,12 @@ fn came_back(message: &[u8], answer: &[u8], rows: &[u32; 168], i: usize) -> bool
     if !ok_at(message, answer, i) {
         return false;
     }
-    let row = layout::row_of(rows, i);
     let part = outcome::read_data(message, answer, i);
-    same_words(part, &row)
+    same_words(part, &layout::row_of(rows, i))
 }
 
 // The mark written, or 25.
+#[tactic(auto, unfolding(crate::specs::Attempt::marking))]
 fn mark_told(message: &[u8], answer: &[u8], on: Next) -> Next
     ensures { result ≡ marking (told_of message.now answer.now) on }
 {
@@ -58,43 +54,29 @@ fn mark_told(message: &[u8], answer: &[u8], on: Next) -> Next
     Next::Ended(25)
 }
 
-// The rows written, or the first that was not.
-fn rows_told(message: &[u8], answer: &[u8]) -> Next
-    ensures { result ≡ through (wrote_row (told_of message.now answer.now)) (Send Back) 0 24 }
+// Goes on where every row is well; else the first that is not ends it.
+fn through<F: Fn(usize) -> bool>(on: Next, well: F) -> Next
+    requires { (i : ℕ) → i < 24 → F.pre well i }
+    ensures { Goes (F.post well) on result }
 {
-    let mut i: usize = 0;
-    while i < layout::ROWS {
-        if !ok_at(message, answer, i) {
+    for i in 0..layout::ROWS {
+        if !well(i) {
             return Next::Ended(i as u8 + 1);
         }
-        i += 1;
     }
-    Next::Send(Stage::Back)
+    on
 }
 
-// The rows come back as sent, or the first that did not.
-fn back_told(message: &[u8], answer: &[u8], rows: &[u32; 168]) -> Next
-    ensures { result ≡ through (read_row rows.now (told_of message.now answer.now))
-        (Send Mark) 0 24 }
-{
-    let mut i: usize = 0;
-    while i < layout::ROWS {
-        if !came_back(message, answer, rows, i) {
-            return Next::Ended(i as u8 + 1);
-        }
-        i += 1;
-    }
-    Next::Send(Stage::Mark)
-}
-
-// What follows a stage whose message got this answer.
+// What follows a stage whose message got this answer: the rows are written, and come back as sent.
 fn next_of(message: &[u8], answer: &[u8], rows: &[u32; 168], stage: Stage) -> Next
     ensures { result ≡ next_of rows.now stage (told_of message.now answer.now) }
 {
     match stage {
         Stage::Clear => mark_told(message, answer, Next::Send(Stage::Rows)),
-        Stage::Rows => rows_told(message, answer),
-        Stage::Back => back_told(message, answer, rows),
+        Stage::Rows => through(Next::Send(Stage::Back), |i| ok_at(message, answer, i)),
+        Stage::Back => through(Next::Send(Stage::Mark), |i| {
+            came_back(message, answer, rows, i)
+        }),
         Stage::Mark => mark_told(message, answer, Next::Done),
     }
 }
@@ -105,7 +87,6 @@ pub(crate) fn next_by(message: &[u8], answer: &[u8], rows: &[u32; 168], next: Ne
 {
     match next {
         Next::Send(stage) => next_of(message, answer, rows, stage),
-        Next::Done => Next::Done,
-        Next::Ended(n) => Next::Ended(n),
+        Next::Done | Next::Ended(_) => next,
     }
 }

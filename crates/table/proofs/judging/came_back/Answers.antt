@@ -23,6 +23,6 @@ returns c =
     let ba : Bytes a.answer.now =
     below_all 256 _ (λ i. search rules) in
     row-compared a.rows.now (told_of a.message.now a.answer.now) a.i
-    c.ok_at.ensures c.if-not-ok_at.false c.row_of-row.ensures.value
+    c.ok_at.ensures c.if-not-ok_at.false c.row_of.ensures.value
     (told-words a.message.now a.answer.now (kind_of (get_or a.message.now 0 0)) a.i bm ba)
     c.read_data-part.ensures.words c.same_words.ensures

@@ -1,12 +1,9 @@
 -- `table::judging::same_words` meets its contract: the first j words are the same. Assumes nothing.
-use Prim.Native.Nat.{ℕ, ◌-◌, ◌<◌}
+use Prim.Native.Nat.{ℕ, ◌<◌}
 use mathlib.Core.Path.{◌≡◌}
-use lib.ListN.{length, get_or}
+use lib.ListN.{get_or}
 use Rattle.word.specs.Words.{words_of}
 use Rattle.table.proofs.judging.same_words.Given as goal
 
 abbrev pub invariant-loop-j : goal.invariant-loop-j
 invariant-loop-j l = (k : ℕ) → k < l.j → get_or (words_of l.part) k 0 ≡ get_or l.row k 0
-
-abbrev pub decreases-loop-j : goal.decreases-loop-j
-decreases-loop-j l = length l.row - l.j
