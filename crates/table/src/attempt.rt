@@ -90,7 +90,10 @@ pub fn message(
     let tag = u32::from(attempt.sender.next);
     let length = writing::write(out, tag, start, room, rows, stage)?;
     // never refused: `due` asked all of it
-    let sender = attempt.sender.offer(&out[..length]).unwrap_or(attempt.sender);
+    let sender = attempt
+        .sender
+        .offer(&out[..length])
+        .unwrap_or(attempt.sender);
     let attempt = Attempt {
         sender,
         next: attempt.next,

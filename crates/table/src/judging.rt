@@ -36,11 +36,11 @@ fn came_back(message: &[u8], answer: &[u8], rows: &[u32; 168], i: usize) -> bool
     requires { i < 24 }
     ensures { result ≡ read_row rows.now (told_of message.now answer.now) i }
 {
-    if !ok_at(message, answer, i) {
-        return false;
-    }
-    let part = outcome::read_data(message, answer, i);
-    same_words(part, &layout::row_of(rows, i))
+    ok_at(message, answer, i)
+        && same_words(
+            outcome::read_data(message, answer, i),
+            &layout::row_of(rows, i),
+        )
 }
 
 // The mark written, or 25.
@@ -68,6 +68,7 @@ fn through<F: Fn(usize) -> bool>(on: Next, well: F) -> Next
 }
 
 // What follows a stage whose message got this answer: the rows are written, and come back as sent.
+#[tactic(auto, unfolding(crate::specs::Attempt::next_of, crate::specs::Attempt::wrote_row))]
 fn next_of(message: &[u8], answer: &[u8], rows: &[u32; 168], stage: Stage) -> Next
     ensures { result ≡ next_of rows.now stage (told_of message.now answer.now) }
 {

@@ -1,5 +1,4 @@
 -- `table::attempt::take` meets its contract: refused by the sender, or accepted. Assumes nothing.
-use mathlib.Core.Path.{sym, ◌∙◌}
 use Rattle.std.proofs.Common.{◌≡◌, Err, rules}
 use Rattle.table.proofs.Inner.Taken.{refused, accepted}
 use Rattle.table.proofs.attempt.take.Goals as goal

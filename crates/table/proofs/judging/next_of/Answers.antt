@@ -3,10 +3,6 @@ use Rattle.std.proofs.Common.{rules}
 use Rattle.table.specs.Attempt.{next_of, wrote_row, read_row, told_of}
 use Rattle.table.proofs.judging.next_of.Goals as goal
 
-pub returns-in-Clear : goal.returns-in-Clear
-unfolding next_of
-returns-in-Clear c = rw c.in-Clear.is c.mark_told.ensures
-
 pub returns-in-Rows : goal.returns-in-Rows
 unfolding next_of wrote_row
 returns-in-Rows c =
@@ -17,7 +13,3 @@ unfolding next_of
 returns-in-Back c =
     rw c.in-Back.is
     (c.through-in-Back.ensures (read_row c.args.rows.now (told_of c.args.message.now c.args.answer.now)) (λ i told h p. search rules))
-
-pub returns-in-Mark : goal.returns-in-Mark
-unfolding next_of
-returns-in-Mark c = rw c.in-Mark.is c.mark_told-in-Mark.ensures
