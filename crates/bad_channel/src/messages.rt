@@ -15,5 +15,5 @@ pub(crate) fn compose(i: u32) -> Bytes {
         last: 0,
         count: 1,
     };
-    channel_run::compose(kind, i % 16, asked, 0xc0de0000 + i % 256)
+    channel_run::compose(u32::from(kind), i % 16, asked, 0xc0de0000 + i % 256)
 }

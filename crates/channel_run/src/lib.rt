@@ -6,14 +6,13 @@
 #![tactic(auto)]
 
 ghost use Rattle.std.specs.Prelude.{◌≡◌, false, replicate};
-ghost use Rattle.header.specs.Header.{number_of};
 ghost use Rattle.channel_run.specs.Bytes.{zeros, no_bytes, datagram_in, place_of, placed, composed};
 ghost use Rattle.channel_run.specs.Bytes.{OneBuilt};
 
 use building::asked::Asked;
 use building::build;
+use header::limits;
 use header::refusal::Refusal;
-use header::{Kind, limits};
 
 pub mod controller;
 pub mod loader;
@@ -82,25 +81,19 @@ impl Channel {
 }
 
 // Builds the message of one command in an output of zeros, and gives its length in bytes.
-fn build_one(
-    out: &mut [u8],
-    kind: Kind,
-    tag: u32,
-    asked: Asked,
-    word: u32,
-) -> Result<usize, Refusal>
+fn build_one(out: &mut [u8], kind: u32, tag: u32, asked: Asked, word: u32) -> Result<usize, Refusal>
     requires { out.old ≡ zeros }
-    ensures { OneBuilt (number_of kind) tag asked word result out.new }
+    ensures { OneBuilt kind tag asked word result out.new }
 {
-    let begun = build::begin(out, u32::from(kind), tag, false, false)?;
+    let begun = build::begin(out, kind, tag, false, false)?;
     let added = build::add(out, begun, asked, &[word])?;
     let closed = build::close(out, added)?;
     Ok(4 * closed.words)
 }
 
-// The message of one command, with the word that a write has.
-pub fn compose(kind: Kind, tag: u32, asked: Asked, word: u32) -> Bytes
-    ensures { result ≡ composed (number_of kind) tag asked word }
+// The message of one command, with the word that a write has. The kind is a number, as begin takes it.
+pub fn compose(kind: u32, tag: u32, asked: Asked, word: u32) -> Bytes
+    ensures { result ≡ composed kind tag asked word }
 {
     let mut bytes = [0u8; limits::LIMIT_BYTES];
     match build_one(&mut bytes, kind, tag, asked, word) {

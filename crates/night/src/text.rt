@@ -15,14 +15,19 @@ pub struct Line {
 }
 
 impl Line {
-    // No text, over zeros.
-    pub fn empty() -> Line
-        ensures { result.length ≡ 0 }
+    // No text yet, over these bytes.
+    pub fn over(bytes: [u8; LINE]) -> Line
+        ensures bytes { result.bytes ≡ bytes }
+        ensures none { result.length ≡ 0 }
     {
-        Line {
-            bytes: [0; LINE],
-            length: 0,
-        }
+        Line { bytes, length: 0 }
+    }
+
+    // Its bytes, those of the text and those behind it.
+    pub fn buffer(&self) -> &[u8; LINE]
+        ensures { result.now ≡ self.now.bytes }
+    {
+        &self.bytes
     }
 
     // Its text.

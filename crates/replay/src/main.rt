@@ -11,7 +11,7 @@ const STDIN: i32 = 0;
 fn main(rt: HostRuntime) -> std::io::Result<()> {
     let mut night = Night::start();
     let mut recorded = [0u8; night::RECORD];
-    let mut line = Line::empty();
+    let mut line = Line::over([0; night::LINE]);
     let mut out = std::io::writer(&rt);
     for k in 1..=u64::MAX {
         // The input may end within a record, which `read_exact` would make an error.

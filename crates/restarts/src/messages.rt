@@ -17,7 +17,7 @@ pub(crate) fn compose(n: u32, first: u32, i: u32) -> Bytes {
         count: 3,
     };
     channel_run::compose(
-        kind,
+        u32::from(kind),
         (first % 16 + i % 16) % 16,
         asked,
         256 * (n % 256) + i % 256,
