@@ -159,17 +159,14 @@ pub fn header_from(byte0: u32, byte1: u32, count: usize, last: bool) -> u32
     byte0 + 256 * byte1 + 65536 * count as u32 + 2147483648 * u32::from(last)
 }
 
-// The words of an address. Write and Read have an arm each: with one for both, many writes of one word took a fifth
-// longer.
+// The words of an address.
 fn address_by(kind: Kind, wide: bool) -> usize
     ensures value { result ≡ address_by kind wide }
     ensures below { result < 3 }
 {
     match kind {
-        Kind::Nop => 0,
-        Kind::Write => 1 + usize::from(wide),
-        Kind::Read => 1 + usize::from(wide),
-        Kind::Response => 0,
+        Kind::Write | Kind::Read => 1 + usize::from(wide),
+        Kind::Nop | Kind::Response => 0,
     }
 }
 
