@@ -12,20 +12,12 @@ use Rattle.header.proofs.Laws.Refusal.{ok_of, err_of, number_is}
 use Rattle.initiator.proofs.Laws.Places.{ok-next}
 use Rattle.initiator.proofs.Laws.Promises.{accepted-plain}
 use Rattle.layout.proofs.Laws.Writing.{written-fits}
-use Rattle.table.specs.declared.attempt.Next.TheVariants.{Ended}
 use Rattle.table.specs.declared.attempt.Attempt.{Attempt}
 use Rattle.table.specs.declared.attempt.Offered.{Offered}
 use Rattle.table.specs.Calls.{Made, offered_of, made_of, made_to, Taken, answered_of, taken_of}
 use Rattle.table.proofs.Laws.Calls.{fine, made-refusal, made-fine, taken-refusal}
 use Rattle.loader.specs.declared.training.TableAttempt.{TableAttempt}
-use Rattle.loader.specs.Training.{next_from, attempt_of, numbers_of, made_by, table_made_of, taken_by, table_taken_of}
-
--- every other number
-pub next-ended : (stage row : ℕ) → (stage ≡ 0 → ⊥) → (stage ≡ 1 → ⊥) → (stage ≡ 2 → ⊥) → (stage ≡ 3 → ⊥)
-    → (stage ≡ 4 → ⊥) → Ended row ≡ next_from stage row
-unfolding next_from
-next-ended stage row n0 n1 n2 n3 n4 =
-    simp (ne_eqb stage 0 n0, ne_eqb stage 1 n1, ne_eqb stage 2 n2, ne_eqb stage 3 n3, ne_eqb stage 4 n4)
+use Rattle.loader.specs.Training.{attempt_of, numbers_of, made_by, table_made_of, taken_by, table_taken_of}
 
 -- a refused call, and one that is not
 pub made-not : (made : Made) (a : TableAttempt) → (made.refusal ≡ 0 → ⊥)

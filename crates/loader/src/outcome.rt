@@ -5,7 +5,7 @@
 ghost use Rattle.std.specs.Prelude.{◌≡◌, ◌+◌, ◌≤◌, length};
 ghost use Rattle.message.specs.Walk.{read};
 ghost use Rattle.initiator.specs.Outcome.{judged_by, count_in};
-ghost use Rattle.loader.specs.Outcome.{ending_no, status_number, data_part};
+ghost use Rattle.loader.specs.Outcome.{status_number, data_part};
 
 use answer::Status;
 use initiator::outcome;
@@ -28,24 +28,16 @@ pub fn charkhavo_count(request: &[u8], answer: &[u8]) -> usize
     outcome::answered(request, answer)
 }
 
-// The number of an ending.
-fn ending_no(ending: Option<Status>) -> u32
-    ensures { result ≡ ending_no ending }
-{
-    match ending {
-        None => ABSENT,
-        Some(status) => u32::from(status),
-    }
-}
-
 // How command k ended, counted from 0: 0 OK, 1 Timeout, 2 Error, 3 not answered or the answer refused.
+#[tactic(auto, unfolding(crate::specs::Outcome::status_number))]
 pub fn charkhavo_status(request: &[u8], answer: &[u8], k: usize) -> u32
     ensures { result ≡ status_number request.now answer.now k }
 {
-    ending_no(outcome::ended(request, answer, k))
+    outcome::ended(request, answer, k).map_or(ABSENT, u32::from)
 }
 
 // Where command k's read data stand in the answer; of length 0 at 0 for anything but an answered OK read.
+#[tactic(auto, unfolding(crate::specs::Outcome::data_part))]
 pub fn charkhavo_read_data(request: &[u8], answer: &[u8], k: usize) -> Part
     ensures value { result ≡ data_part request.now answer.now k }
     ensures inside { result.start + result.length ≤ length answer.now }

@@ -5,7 +5,7 @@
 ghost use Rattle.std.specs.Prelude.{◌≡◌};
 ghost use Rattle.layout.specs.Layout.{set_up_fault};
 ghost use Rattle.table.specs.Calls.{beginning, made_to};
-ghost use Rattle.loader.specs.Training.{stage_no, next_from, attempt_of, numbers_of, table_made_of, table_taken_of};
+ghost use Rattle.loader.specs.Training.{stage_no, attempt_of, numbers_of, table_made_of, table_taken_of};
 
 use header::refusal::Refusal;
 use initiator::sender::Sender;
@@ -40,7 +40,8 @@ pub struct TableTaken {
     pub attempt: TableAttempt,
 }
 
-// The number of a message.
+// The number of a message. Both types are other crates', so it is no `From`; and C's numbers stand here, whatever the
+// order of the stages there.
 fn stage_no(stage: Stage) -> u8
     ensures { result ≡ stage_no stage }
 {
@@ -52,51 +53,42 @@ fn stage_no(stage: Stage) -> u8
     }
 }
 
-// What the two numbers say.
-fn next_from(stage: u8, row: u8) -> Next
-    ensures { result ≡ next_from stage row }
-{
-    match stage {
-        0 => Next::Send(Stage::Clear),
-        1 => Next::Send(Stage::Rows),
-        2 => Next::Send(Stage::Back),
-        3 => Next::Send(Stage::Mark),
-        4 => Next::Done,
-        _ => Next::Ended(row),
+// The attempt that the numbers say.
+impl From<TableAttempt> for Attempt {
+    ghost from_gives = { λ numbers attempt. attempt ≡ attempt_of numbers };
+
+    #[tactic(auto, unfolding(crate::specs::Training::next_from))]
+    fn from(numbers: TableAttempt) -> Attempt {
+        let next = match numbers.stage {
+            0 => Next::Send(Stage::Clear),
+            1 => Next::Send(Stage::Rows),
+            2 => Next::Send(Stage::Back),
+            3 => Next::Send(Stage::Mark),
+            4 => Next::Done,
+            _ => Next::Ended(numbers.row),
+        };
+        Attempt {
+            sender: numbers.sender,
+            next,
+        }
     }
 }
 
-// The attempt that the numbers say.
-fn attempt_of(attempt: TableAttempt) -> Attempt
-    ensures { result ≡ attempt_of attempt }
-{
-    let sender = attempt.sender;
-    let next = next_from(attempt.stage, attempt.row);
-    Attempt { sender, next }
-}
-
 // An attempt by its numbers.
-fn numbers_of(attempt: Attempt) -> TableAttempt
-    ensures { result ≡ numbers_of attempt }
-{
-    let sender = attempt.sender;
-    let next = attempt.next;
-    match next {
-        Next::Send(stage) => TableAttempt {
-            sender,
-            stage: stage_no(stage),
-            row: 0,
-        },
-        Next::Done => TableAttempt {
-            sender,
-            stage: 4,
-            row: 0,
-        },
-        Next::Ended(row) => TableAttempt {
-            sender,
-            stage: 5,
+impl From<Attempt> for TableAttempt {
+    ghost from_gives = { λ attempt numbers. numbers ≡ numbers_of attempt };
+
+    fn from(attempt: Attempt) -> TableAttempt {
+        let (stage, row) = match attempt.next {
+            Next::Send(stage) => (stage_no(stage), 0),
+            Next::Done => (4, 0),
+            Next::Ended(row) => (5, row),
+        };
+        TableAttempt {
+            sender: attempt.sender,
+            stage,
             row,
-        },
+        }
     }
 }
 
@@ -115,7 +107,7 @@ pub fn charkhavo_set_up(start: u64, room: u64) -> u32
 pub fn charkhavo_attempt(sender: Sender) -> TableAttempt
     ensures { result ≡ numbers_of (beginning sender) }
 {
-    numbers_of(Attempt::begin(sender))
+    TableAttempt::from(Attempt::begin(sender))
 }
 
 // The attempt's next message, in the output, which then waits: 40; 37; 36 where a message waits; 30 where it is done or
@@ -130,11 +122,11 @@ pub fn charkhavo_table_message(
     ensures { (result ≡ table_made_of attempt start room rows.now output.old)
         × (output.new ≡ made_to (attempt_of attempt) start room rows.now output.old) }
 {
-    match attempt::message(output, attempt_of(attempt), start, room, rows) {
+    match attempt::message(output, Attempt::from(attempt), start, room, rows) {
         Ok(offered) => TableMade {
             refusal: Refusal::NONE,
             length: offered.length as u32,
-            attempt: numbers_of(offered.attempt),
+            attempt: TableAttempt::from(offered.attempt),
         },
         Err(refusal) => TableMade {
             refusal: refusal.number,
@@ -154,10 +146,10 @@ pub fn charkhavo_table_take(
 ) -> TableTaken
     ensures { result ≡ table_taken_of attempt message.now answer.now rows.now }
 {
-    match attempt::take(attempt_of(attempt), message, answer, rows) {
+    match attempt::take(Attempt::from(attempt), message, answer, rows) {
         Ok(taken) => TableTaken {
             refusal: Refusal::of(Refusal::NONE),
-            attempt: numbers_of(taken),
+            attempt: TableAttempt::from(taken),
         },
         Err(refusal) => TableTaken { refusal, attempt },
     }

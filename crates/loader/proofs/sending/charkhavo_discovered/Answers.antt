@@ -1,5 +1,4 @@
 -- `loader::sending::charkhavo_discovered` meets its contract: what the call gives back, as C has it. Assumes nothing.
-use mathlib.Core.Path.{◌∙◌}
 use Rattle.initiator.proofs.Laws.Checked.{start-moved}
 use Rattle.loader.proofs.sending.charkhavo_discovered.Goals as goal
 

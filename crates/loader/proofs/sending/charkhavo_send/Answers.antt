@@ -1,5 +1,4 @@
 -- `loader::sending::charkhavo_send` meets its contract: the refusal, and all the message's bytes or none. Assumes nothing.
-use mathlib.Core.Path.{sym}
 use Rattle.initiator.proofs.Laws.Checked.{sent-whole, sent-refused}
 use Rattle.loader.specs.Sending.{sending_of}
 use Rattle.loader.proofs.sending.charkhavo_send.Goals as goal
