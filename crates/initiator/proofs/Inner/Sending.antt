@@ -1,12 +1,11 @@
 -- The sender's checks, one by one. The proofs of the sender's functions cite these. Assumes nothing.
 use Prim.Native.Nat.{ℕ, ◌<◌}
-use mathlib.Core.Path.{◌≡◌, refl, sym, ap, ◌∙◌}
+use mathlib.Core.Path.{◌≡◌, refl, sym, ◌∙◌}
 use mathlib.Core.Bool.{Bool, true, false}
 use mathlib.Core.List.{List, []}
 use native.Mathlib.Omega.{arith}
 use borrow.Author.Tests.{ltb-true, eqb-true}
 use lib.Dec.{ltb, eqb}
-use Rattle.header.specs.declared.Kind.{Kind}
 use Rattle.header.specs.declared.refusal.Refusal.{Refusal}
 use Rattle.header.specs.Header.{tag_of}
 use Rattle.header.specs.Refusal.{refusal, unless}
@@ -18,7 +17,7 @@ use Rattle.message.proofs.Laws.Going.{read_first}
 use Rattle.answer.specs.Answer.{Answered, judge}
 use Rattle.answer.proofs.Laws.Looking.{Some, judge-some}
 use Rattle.initiator.specs.declared.sender.Sender.{Sender}
-use Rattle.initiator.specs.Asking.{plainly, asked_as, asking_of}
+use Rattle.initiator.specs.Asking.{plainly, asked_as}
 use Rattle.initiator.specs.Outcome.{judged_in, judged_by}
 use Rattle.initiator.specs.Places.{most, sender_ok, has_room, place_in, waits_for, new_tag, with_one}
 use Rattle.initiator.specs.Sender.{offering, sending, offered_by, offer_of, send_of, send_fault, accepted_at, refused_take, taken_by, take_of}

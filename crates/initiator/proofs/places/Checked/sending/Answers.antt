@@ -1,12 +1,11 @@
 -- `initiator::places::Checked::sending` meets its contract: each check is a line of `sending`. Assumes nothing.
-use mathlib.Core.Path.{◌≡◌, sym, ◌∙◌}
-use mathlib.Core.Bool.{true}
+use mathlib.Core.Path.{sym, ◌∙◌}
 use native.Mathlib.Omega.{arith}
 use Prim.Native.Nat.{◌<◌}
 use borrow.Author.Tests.{lt-ltb}
 use Rattle.std.proofs.lemmas.Result.{err_from_is_err_and}
 use Rattle.word.proofs.Rules.{flag-on, flag_off}
-use Rattle.initiator.specs.Places.{sender_ok, waits_for}
+use Rattle.initiator.specs.Places.{waits_for}
 use Rattle.initiator.specs.Sender.{sending}
 use Rattle.initiator.proofs.Laws.Asked.{given-ok, given-err, as-refused, as-other, as_own}
 use Rattle.initiator.proofs.Laws.Places.{ok-is}

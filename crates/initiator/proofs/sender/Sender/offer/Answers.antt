@@ -1,10 +1,7 @@
 -- `initiator::sender::Sender::offer` meets its contract: each check is a line of `offering`. Assumes nothing.
 use mathlib.Core.Path.{sym, ◌∙◌}
-use mathlib.Core.Bool.{true, false}
-use lib.Dec.{eqb}
 use Rattle.std.proofs.lemmas.Result.{err_from_is_err_and}
 use Rattle.word.proofs.Rules.{flag-on, flag_off}
-use Rattle.initiator.specs.Places.{has_room}
 use Rattle.initiator.proofs.Laws.Asked.{given-ok, given-err}
 use Rattle.initiator.proofs.Inner.Sending.{offering-stopped, offering-full, offering-asks}
 use Rattle.initiator.proofs.sender.Sender.offer.Goals as goal

@@ -1,7 +1,5 @@
 -- `initiator::sender::Sender::send` meets its contract: the lent message, or what refuses it. Assumes nothing.
-use mathlib.Core.Path.{sym, ◌∙◌}
 use Rattle.std.proofs.lemmas.Result.{err_from_is_err_and}
-use Rattle.initiator.proofs.Laws.Asked.{given-ok, given-err}
 use Rattle.initiator.proofs.Inner.Sending.{sending-stopped}
 use Rattle.initiator.proofs.sender.Sender.send.Goals as goal
 
