@@ -1,9 +1,9 @@
 // The controller's call: what follows from the verdict on a datagram.
-ghost use Rattle.std.specs.Prelude.{◌≡◌, ◌≢◌, true, cond, ◌+◌, ◌*◌, ◌%◌, ◌<◌, ◌≤◌, length, Ok, IfErr};
+ghost use Rattle.std.specs.Prelude.{◌≡◌, ◌≢◌, cond, ◌+◌, ◌*◌, ◌%◌, ◌<◌, ◌≤◌, length, Ok, IfErr};
 ghost use Rattle.header.specs.Limits.{limit, limit_bytes};
 ghost use Rattle.message.specs.Request.{Means};
 ghost use Rattle.message.specs.Walk.{read, request_of};
-ghost use Rattle.tags.specs.Record.{places, place_of, words_at, record_ok};
+ghost use Rattle.tags.specs.Record.{places, place_of, words_at};
 ghost use Rattle.completer.specs.Controller.{lent, left};
 ghost use Rattle.completer.specs.Serving.{after_by, after};
 ghost use Rattle.completer.specs.Settling.{gave, sent_by, record_with, follows, SendsAgain, kept_by};
@@ -15,6 +15,7 @@ use header::refusal::Refusal;
 use tags::record;
 use tags::record::TagRecord;
 use tags::rule::Verdict;
+use tags::sound::Sound;
 use word::run;
 
 // What a message that is not refused came to: the bytes sent, which stand at the front of the output, and the message,
@@ -70,22 +71,21 @@ fn act(
     stored: &mut [u32],
     kept: &mut [u8],
     output: &mut [u8],
-    tags: TagRecord,
+    sound: Sound,
     datagram: &[u8],
     keep: bool,
 ) -> Done
     requires { (read datagram.now ≡ Means (request_of datagram.now))
-        × (record_ok tags ≡ true)
         × (places * limit ≤ length stored.old)
         × (limit_bytes ≤ length output.old)
         × (places * limit_bytes ≤ length kept.old) }
-    ensures { gave (Ok result.sent) (lent memory.new stored.new kept.new (record_with tags result.kept)) output.new
+    ensures { gave (Ok result.sent) (lent memory.new stored.new kept.new (record_with sound.tags result.kept)) output.new
         ≡ after_by (Ok (cond keep New Discovery))
-        (lent memory.old stored.old kept.old tags) output.old
+        (lent memory.old stored.old kept.old sound.tags) output.old
         datagram.now }
 {
     let byte0 = u32::from(datagram[0]);
-    let mark = record::mark(tags);
+    let mark = sound.mark();
     let place = record::place(header::tag(byte0));
     keep_request(kept, place, datagram, keep);
     let at = TagRecord::WORDS * place;
@@ -142,7 +142,7 @@ pub fn dispatch(
             stored,
             kept,
             output,
-            tags,
+            Sound::of(tags),
             datagram,
             matches!(verdict, Verdict::New),
         ),

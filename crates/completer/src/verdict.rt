@@ -1,16 +1,17 @@
 // The verdict on a datagram: turned away, new, a repeat or a discovery.
-ghost use Rattle.std.specs.Prelude.{◌≡◌, true, ◌*◌, ◌≤◌, length};
+ghost use Rattle.std.specs.Prelude.{◌≡◌, ◌*◌, ◌≤◌, length};
 ghost use Rattle.header.specs.Limits.{limit, limit_bytes};
 ghost use Rattle.message.specs.Walk.{read};
-ghost use Rattle.tags.specs.Record.{places, request_at, record_ok};
+ghost use Rattle.tags.specs.Record.{places, request_at};
 ghost use Rattle.completer.specs.Controller.{request_in};
 ghost use Rattle.completer.specs.Verdict.{lent_ok, judged, as_kept, held_to, verdict_by};
 
 use header::refusal::Refusal;
 use message::walk;
+use tags::record;
 use tags::record::TagRecord;
 use tags::rule::Verdict;
-use tags::{record, rule};
+use tags::sound::Sound;
 use word::run;
 
 // Check 1 of memory and output.
@@ -41,23 +42,21 @@ fn same_request(kept: &[u8], tags: TagRecord, tag: u32, datagram: &[u8]) -> bool
 }
 
 // The verdict on any datagram where what is lent is right, before its bytes are compared: 2 to 10, then by the tag.
-fn judge(tags: TagRecord, datagram: &[u8]) -> Result<Verdict, Refusal>
-    requires { record_ok tags ≡ true }
-    ensures { result ≡ judged tags (read datagram.now) }
+fn judge(sound: Sound, datagram: &[u8]) -> Result<Verdict, Refusal>
+    ensures { result ≡ judged sound.tags (read datagram.now) }
 {
     let byte0 = walk::walk(datagram)?;
-    rule::rule(tags, byte0)
+    sound.rule(byte0)
 }
 
 // The verdict where what is lent is right: a repeat has to be the kept request of its tag.
-fn hold(kept: &[u8], tags: TagRecord, datagram: &[u8]) -> Result<Verdict, Refusal>
-    requires tags_value { record_ok tags ≡ true }
-    requires limit_bytes_in_bounds { places * limit_bytes ≤ length kept.now }
-    ensures { result ≡ held_to kept.now tags datagram.now
-        (judged tags (read datagram.now)) }
+fn hold(kept: &[u8], sound: Sound, datagram: &[u8]) -> Result<Verdict, Refusal>
+    requires { places * limit_bytes ≤ length kept.now }
+    ensures { result ≡ held_to kept.now sound.tags datagram.now
+        (judged sound.tags (read datagram.now)) }
 {
-    match judge(tags, datagram)? {
-        Verdict::Repeat(tag) if !same_request(kept, tags, tag, datagram) => {
+    match judge(sound, datagram)? {
+        Verdict::Repeat(tag) if !same_request(kept, sound.tags, tag, datagram) => {
             Err(Refusal::of(Refusal::OTHER_BYTES))
         },
         verdict => Ok(verdict),
@@ -78,5 +77,5 @@ pub fn verdict_of(
     if !lent_ok(memory, output) || !record::kept_ok(stored, kept.len(), tags) {
         return Err(Refusal::of(Refusal::LENT));
     }
-    hold(kept, tags, datagram)
+    hold(kept, Sound::of(tags), datagram)
 }

@@ -87,12 +87,13 @@ pub in-tags : InTags
 in-tags =
     record {
       fresh = λ M 𝓤 𝓛 mem run κs a g one other. one_of 𝓤;
-      mark = λ M 𝓤 𝓛 mem run κs a g one other. one_of 𝓤;
       place = λ M 𝓤 𝓛 mem run κs a g one other. first_of 𝓤;
       record-ok = λ M 𝓤 𝓛 mem run κs a g one other. one_of 𝓤;
       kept-ok = λ M 𝓤 𝓛 mem run κs a g one other. one_of 𝓤;
       words-at = λ M 𝓤 𝓛 mem run κs a g one other. one_of 𝓤;
       request-at = λ M 𝓤 𝓛 mem run κs a g one other. one_of 𝓤;
       record-after = λ M 𝓤 𝓛 mem run κs a g one other. one_of 𝓤;
+      of = λ M 𝓤 𝓛 mem run κs a g one other. one_of 𝓤;
+      mark = λ M 𝓤 𝓛 mem run κs a g one other. one_of 𝓤;
       rule = λ M 𝓤 𝓛 mem run κs a g one other. one_of 𝓤;
     }

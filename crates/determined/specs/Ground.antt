@@ -54,14 +54,15 @@ use Rattle.memory.specs.contracts.moves.store as Store
 use Rattle.memory.specs.contracts.moves.store_all as StoreAll
 use Rattle.carrying.specs.contracts.carry.carry as Carry
 use Rattle.tags.specs.contracts.record.TagRecord.fresh as FreshTags
-use Rattle.tags.specs.contracts.record.mark as Mark
 use Rattle.tags.specs.contracts.record.place as Place
 use Rattle.tags.specs.contracts.record.record_ok as RecordOk
 use Rattle.tags.specs.contracts.record.kept_ok as KeptOk
 use Rattle.tags.specs.contracts.record.words_at as WordsAt
 use Rattle.tags.specs.contracts.record.request_at as RequestAt
 use Rattle.tags.specs.contracts.record.record_after as RecordAfter
-use Rattle.tags.specs.contracts.rule.rule as Rule
+use Rattle.tags.specs.contracts.sound.Sound.of as OfTags
+use Rattle.tags.specs.contracts.sound.Sound.mark as Mark
+use Rattle.tags.specs.contracts.sound.Sound.rule as Rule
 
 -- `word`
 pub record InWord : Type 2 where
@@ -137,11 +138,12 @@ pub record InCarrying : Type 2 where
 -- `tags`
 pub record InTags : Type 2 where
   pub fresh : Determined FreshTags.ended (λ M 𝓤. FreshTags.clauses) (λ κs r e. r)
-  pub mark : Determined Mark.ended (λ M 𝓤. Mark.clauses) (λ κs r e. r)
   pub place : Determined Place.ended (λ M 𝓤. Place.clauses) (λ κs r e. r)
   pub record-ok : Determined RecordOk.ended (λ M 𝓤. RecordOk.clauses) (λ κs r e. r)
   pub kept-ok : Determined KeptOk.ended (λ M 𝓤. KeptOk.clauses) (λ κs r e. r)
   pub words-at : Determined WordsAt.ended (λ M 𝓤. WordsAt.clauses) (λ κs r e. r)
   pub request-at : Determined RequestAt.ended (λ M 𝓤. RequestAt.clauses) (λ κs r e. r)
   pub record-after : Determined RecordAfter.ended (λ M 𝓤. RecordAfter.clauses) (λ κs r e. r)
+  pub of : Determined OfTags.ended (λ M 𝓤. OfTags.clauses) (λ κs r e. r.tags)
+  pub mark : Determined Mark.ended (λ M 𝓤. Mark.clauses) (λ κs r e. r)
   pub rule : Determined Rule.ended (λ M 𝓤. Rule.clauses) (λ κs r e. r)

@@ -1,7 +1,7 @@
 // The tag record: how many messages are held, the newest one's tag, and the lengths of each one's answer and request.
 ghost use Rattle.std.specs.Prelude.{◌≡◌, true, cond, ◌&&◌, eqb, ◌<◌};
 ghost use Rattle.header.specs.Limits.{tag_count};
-ghost use Rattle.tags.specs.Record.{places, fresh_record, mark_of, place_of, words_ok, place_ok, places_ok, held_ok};
+ghost use Rattle.tags.specs.Record.{places, fresh_record, place_of, words_ok, place_ok, places_ok, held_ok};
 ghost use Rattle.tags.specs.Record.{record_ok, kept_ok, words_at, request_at, written, one_more, record_by};
 
 use header::limits;
@@ -43,17 +43,6 @@ impl TagRecord {
             request: [0, 0, 0, 0],
         }
     }
-}
-
-// Word 1 of the advertisement.
-pub fn mark(tags: TagRecord) -> u32
-    requires { record_ok tags ≡ true }
-    ensures { result ≡ mark_of tags }
-{
-    if tags.held == 0 {
-        return 0;
-    }
-    tags.tag + 16
 }
 
 // The place of a tag's answer and request.

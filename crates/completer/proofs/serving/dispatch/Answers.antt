@@ -32,10 +32,13 @@ returns-in-Repeat-clause-leaves c =
     served-by _ _ _ (ap Ok (sym c.in-Repeat.is) ∙ sym c.in_ok-verdict.was ∙ c.verdict_of.ensures)
     (sent-again _ _ c.args.memory.now c.args.kept.now c.args.datagram.now c.again.ensures)
 
+pub of-requires : goal.of-requires
+of-requires c = (carrying c.in_ok-verdict.verdict (sym c.in_ok-verdict.was ∙ c.verdict_of.ensures)).good
+
 pub act-requires : goal.act-requires
 act-requires c =
     let k = carrying c.in_ok-verdict.verdict (sym c.in_ok-verdict.was ∙ c.verdict_of.ensures) in
-    (k.means, k.good, k.stored, k.output, k.room)
+    (k.means, k.stored, k.output, k.room)
 
 pub returns-after-matches-clause-leaves : goal.returns-after-matches-clause-leaves
 returns-after-matches-clause-leaves c =
@@ -44,4 +47,4 @@ returns-after-matches-clause-leaves c =
       | in-New w ↦ rw w.matches-is (sym w.in-New.is)
       | in_default-matches w ↦ rw w.matches-is (other-verdict c.in_ok-verdict.verdict c.in_default.not-Repeat w.in_default-matches.not-New)
     ] in
-    served-carried _ _ _ c.match-matches.matches (sym c.in_ok-verdict.was ∙ c.verdict_of.ensures) is c.act.ensures
+    served-carried _ _ _ c.match-matches.matches (sym c.in_ok-verdict.was ∙ c.verdict_of.ensures) is (rw c.of.ensures at c.act.ensures)

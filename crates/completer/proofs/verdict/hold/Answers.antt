@@ -7,4 +7,4 @@ use Rattle.completer.proofs.verdict.hold.Goals as goal
 pub same_request-requires-clause-tag_bound : goal.same_request-requires-clause-tag_bound
 same_request-requires-clause-tag_bound c =
     let a = c.args in
-    (repeated a.tags a.datagram.now _ c.requires.tags_value (sym c.judge.ensures ∙ (c.in_ok-verdict.was ∙ ap Ok c.in-Repeat.is))).lengths.request
+    (repeated a.sound.tags a.datagram.now _ c.args.sound.good (sym c.judge.ensures ∙ (c.in_ok-verdict.was ∙ ap Ok c.in-Repeat.is))).lengths.request

@@ -13,11 +13,12 @@ returns-then-not-lent_ok c =
       | then-not-lent_ok-via-else-not-lent_ok+then-not-kept_ok w ↦ simp (c.of.ensures, flag-on c.lent_ok.ensures w.if-not-lent_ok.false, flag_off w.kept_ok.ensures w.if-not-kept_ok.true)
     ]
 
+pub of-requires-2 : goal.of-requires-2
+of-requires-2 c = (kept-room _ _ _ (flag-on c.kept_ok.ensures c.if-not-kept_ok.false)).good
+
 pub hold-requires : goal.hold-requires
-hold-requires c =
-    let k = kept-room _ _ _ (flag-on c.kept_ok.ensures c.if-not-kept_ok.false) in
-    record { tags_value = k.good; limit_bytes_in_bounds = k.kept }
+hold-requires c = (kept-room _ _ _ (flag-on c.kept_ok.ensures c.if-not-kept_ok.false)).kept
 
 pub returns : goal.returns
 unfolding verdict_by
-returns c = simp (flag-on c.lent_ok.ensures c.if-not-lent_ok.false, flag-on c.kept_ok.ensures c.if-not-kept_ok.false) c.hold.ensures
+returns c = simp (flag-on c.lent_ok.ensures c.if-not-lent_ok.false, flag-on c.kept_ok.ensures c.if-not-kept_ok.false) (rw c.of-2.ensures at c.hold.ensures)

@@ -1,8 +1,8 @@
--- `tags::rule::rule` meets its contract: each check is a line of `rule_of`, and a new tag is not held. Assumes nothing.
+-- `tags::sound::Sound::rule` meets its contract: each check is a line of `rule_of`, and a new tag is not held. Assumes nothing.
 use mathlib.Core.Path.{sym, ◌∙◌}
 use Rattle.tags.specs.Rule.{rule_of}
 use Rattle.tags.proofs.Laws.Record.{new-not-held}
-use Rattle.tags.proofs.rule.rule.Goals as goal
+use Rattle.tags.proofs.sound.Sound.rule.Goals as goal
 
 pub returns-then-discovery : goal.returns-then-discovery
 unfolding rule_of
@@ -12,7 +12,7 @@ pub returns-then-expected : goal.returns-then-expected
 unfolding rule_of
 returns-then-expected c =
     let new = sym c.expected.ensures ∙ c.if-expected.true in
-    let other = new-not-held c.args.tags _ c.requires new in
+    let other = new-not-held c.args.self.tags _ c.args.self.good new in
     simp (sym c.discovery.ensures ∙ c.if-discovery.false, ← c.tag-tag.ensures.value, other, new)
 
 pub returns-then-holds : goal.returns-then-holds
