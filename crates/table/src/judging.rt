@@ -54,7 +54,8 @@ fn mark_told(message: &[u8], answer: &[u8], on: Next) -> Next
     Next::Ended(25)
 }
 
-// Goes on where every row is well; else the first that is not ends it.
+// Goes on where every row is well; else the first that is not ends it. By a `for`: the proof
+// of `find` wants a `well` that may be asked of any number, and here it may be asked of rows alone.
 fn through<F: Fn(usize) -> bool>(on: Next, well: F) -> Next
     requires { (i : ℕ) → i < 24 → F.pre well i }
     ensures { Goes (F.post well) on result }

@@ -1,4 +1,4 @@
--- The turns of a loop through the rows. The proofs of `rows_told` and `back_told` cite these. Assumes nothing.
+-- The turns of a loop through the rows. The proof of `judging::through` cites these. Assumes nothing.
 use Prim.Native.Nat.{ℕ, suc, ◌+◌, ◌-◌, ◌<◌, ◌≤◌}
 use mathlib.Core.Path.{◌≡◌, sym, ap, ◌∙◌}
 use mathlib.Core.Bool.{Bool, true, false}
