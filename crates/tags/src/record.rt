@@ -57,10 +57,7 @@ pub fn place(tag: u32) -> usize
 fn words_ok(words: u32) -> bool
     ensures { result ≡ words_ok words }
 {
-    if words < 1 {
-        return false;
-    }
-    words as usize <= TagRecord::WORDS
+    words >= 1 && words as usize <= TagRecord::WORDS
 }
 
 // The two lengths of a place. Both are looked at, so that the compiler asks for four places at once.
@@ -130,10 +127,7 @@ fn held_ok(tags: TagRecord) -> bool
 pub fn record_ok(tags: TagRecord) -> bool
     ensures { result ≡ record_ok tags }
 {
-    if tags.held == 0 {
-        return true;
-    }
-    held_ok(tags)
+    tags.held == 0 || held_ok(tags)
 }
 
 // Check 1 of the record, the stored answers and the kept requests.

@@ -8,6 +8,6 @@ pub returns-then-tags-eq0 : goal.returns-then-tags-eq0
 unfolding record_ok
 returns-then-tags-eq0 c = search tests
 
-pub returns : goal.returns
+pub returns-else-tags-eq0 : goal.returns-else-tags-eq0
 unfolding record_ok
-returns c = rw (ne_eqb _ 0 c.if-tags-eq0.false) c.held_ok.ensures
+returns-else-tags-eq0 c = rw (ne_eqb _ 0 c.if-tags-eq0.false) c.held_ok.ensures

@@ -3,10 +3,10 @@ use Rattle.word.proofs.Rules.{tests}
 use Rattle.tags.specs.Record.{words_ok}
 use Rattle.tags.proofs.record.words_ok.Goals as goal
 
-pub returns-then-words-lt1 : goal.returns-then-words-lt1
+pub returns-then-words-ge1 : goal.returns-then-words-ge1
 unfolding words_ok
-returns-then-words-lt1 c = search tests
+returns-then-words-ge1 c = search tests
 
-pub returns : goal.returns
+pub returns-else-words-ge1 : goal.returns-else-words-ge1
 unfolding words_ok
-returns c = search tests
+returns-else-words-ge1 c = search tests
