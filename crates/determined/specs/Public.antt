@@ -93,8 +93,8 @@ abbrev pub beside : {A B : Type 0} → A → B → A × B
 beside r output = (r, output)
 
 -- The controller: the refusal, the bytes sent, memory, stored answers, kept requests, record and output, all of them.
--- `dispatch` gives no record: it is the one that `follow` makes of what it gives and of the record that came in. Where
--- nothing is kept, `follow` does not look at the three numbers beside it, and they are open.
+-- `dispatch` gives no record: it is the one that `follow` makes of what it gives and of the record that came in. What a
+-- message is kept with stands in that record, and is open where it does not.
 pub record Controlling : Type 2 where
   pub verdict-of : Determined VerdictOf.ended (λ M 𝓤. VerdictOf.clauses) (λ κs r e. r)
   pub dispatch :

@@ -1,5 +1,5 @@
 -- The two ends of this project, as `once` wants them: each call is the definition that the contract of its function
--- cites. Assumes nothing.
+-- cites, or for `offer`, `send` and `take` the one that `ResultsTell` of `initiator` ties to it. Assumes nothing.
 use Rattle.std.specs.Prelude.{ℕ, cond, List, [], ◌∷◌, ◌++◌, eqb, get_or, take, drop}
 use Rattle.std.proofs.Math.Option.{Option, none, some}
 use Rattle.std.proofs.Math.ListN.{get_elem?}

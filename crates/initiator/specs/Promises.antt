@@ -1,6 +1,6 @@
 -- What is promised of the sender, in other words than its definitions. The proofs are in proofs/Laws/Promises.antt.
 -- Assumes nothing.
-use Rattle.std.specs.Prelude.{ℕ, ◌+◌, ◌%◌, ◌≤◌, ◌<◌, ◌≡◌, true, false, not, ◌&&◌, ◌||◌, List, eqb, length, get_or, Err}
+use Rattle.std.specs.Prelude.{ℕ, ◌+◌, ◌%◌, ◌≤◌, ◌<◌, ◌≡◌, true, false, not, ◌&&◌, ◌||◌, List, [], eqb, length, get_or, Ok, Err}
 use Rattle.header.specs.declared.refusal.Refusal.{Refusal}
 use Rattle.header.specs.Limits.{length_ok}
 use Rattle.header.specs.Header.{tag_of, discovery_of}
@@ -14,7 +14,8 @@ use Rattle.initiator.specs.declared.sender.Moved.{Moved}
 use Rattle.initiator.specs.declared.sender.Taken.{Taken}
 use Rattle.initiator.specs.Outcome.{judged_by, outcome_of}
 use Rattle.initiator.specs.Places.{waits_for}
-use Rattle.initiator.specs.Sender.{send_fault, offer_of, take_of, start_of}
+use Rattle.initiator.specs.Sender.{send_fault, offer_of, send_of, take_of, start_of}
+use Rattle.initiator.specs.Sender.{offer_by, moved_from, sent_by, take_by, taken_from, discovered_by, or_stopped}
 
 -- a refusal leaves the sender as it was, and nothing ends
 abbrev pub KeepsRefused : Sender → Moved → Type 0
@@ -115,3 +116,15 @@ pub record HandsOn (answer : List ℕ) (r : Refusal) : Type 0 where
   pub told : (message : List ℕ) (k : ℕ) → judged_by (read message) answer ≡ Refused r
       → outcome_of message answer k ≡ Err r
   pub start : judge discovery_request answer ≡ Refused r → (start_of answer).refusal ≡ r
+
+-- What the sender's functions give back tells all that `offer_of`, `send_of`, `take_of` and `start_of` say, of which
+-- the theorems above speak: refused, the sender that was lent is kept, a part is empty, and a discovery's is stopped.
+pub record ResultsTell : Type 0 where
+  pub offer : (s : Sender) (message : List ℕ) → moved_from s (offer_by s message) ≡ offer_of s message
+  pub take : (s : Sender) (message answer : List ℕ)
+      → taken_from s (take_by s message answer) ≡ take_of s message answer
+  pub sent : (s : Sender) (message part : List ℕ) → Ok part ≡ sent_by s message
+      → (part ≡ send_of s message) × (refusal 0 ≡ send_fault s message)
+  pub unsent : (s : Sender) (message : List ℕ) (r : Refusal) → Err r ≡ sent_by s message
+      → ([] ≡ send_of s message) × (r ≡ send_fault s message)
+  pub discovered : (answer : List ℕ) → or_stopped (discovered_by answer) ≡ start_of answer

@@ -16,7 +16,7 @@ use answer::{Seen, Status};
 use header::Kind;
 use header::refusal::Refusal;
 
-// A part of an answer's bytes.
+// A part of an answer's bytes. No Range, which is not copied: C's part and two calls read it.
 #[derive(Clone, Copy)]
 pub struct Span {
     pub start: usize,
@@ -116,6 +116,7 @@ fn look_through(request: &[u8], answer: &[u8], byte0: u32, k: usize) -> Result<O
         ending: None,
         part: NO_PART,
     };
+    // Both go on by a command's size, so that no index is counted.
     let mut at: usize = 0;
     let mut back: usize = 0;
     loop {

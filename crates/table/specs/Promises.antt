@@ -8,7 +8,9 @@ use Rattle.message.specs.Request.{Means}
 use Rattle.message.specs.Walk.{read}
 use Rattle.answer.specs.declared.Status.TheVariants.{Ok}
 use Rattle.initiator.specs.declared.sender.Sender.{Sender}
-use Rattle.std.specs.Prelude.{Some}
+use Rattle.std.specs.Prelude.{Some, Result, Ok, Err}
+use Rattle.header.specs.declared.refusal.Refusal.{Refusal}
+use Rattle.table.specs.declared.attempt.Offered.{Offered}
 use Rattle.initiator.specs.Sender.{offer_of}
 use Rattle.layout.specs.declared.Stage.{Stage}
 use Rattle.layout.specs.declared.Stage.TheVariants.{Clear, Rows, Back, Mark}
@@ -17,7 +19,7 @@ use Rattle.table.specs.declared.attempt.Next.{Next}
 use Rattle.table.specs.declared.attempt.Next.TheVariants.{Send, Done}
 use Rattle.table.specs.declared.attempt.Next.TheVariants as next
 use Rattle.table.specs.declared.attempt.Attempt.{Attempt}
-use Rattle.table.specs.Calls.{Made}
+use Rattle.table.specs.Calls.{Made, Taken, offered_of, answered_of}
 use Rattle.table.specs.Attempt.{Told, told_of, next_by}
 use Rattle.table.specs.Calls.{beginning, made_of, made_to, taken_of}
 
@@ -109,6 +111,22 @@ abbrev pub RefusedStays : Type 0
 RefusedStays =
     (a : Attempt) (message answer rows : List ℕ) → ((taken_of a message answer rows).refusal.number ≡ 0 → ⊥)
     → (taken_of a message answer rows).attempt ≡ a
+
+-- what a call gives back, of the attempt that was lent: refused, it is as it was
+abbrev pub made_from : Attempt → Result Offered Refusal → Made
+made_from a (Ok offered) = record { refusal = 0; length = offered.length; attempt = offered.attempt }
+made_from a (Err r) = record { refusal = r.number; length = 0; attempt = a }
+
+abbrev pub taken_from : Attempt → Result Attempt Refusal → Taken
+taken_from a (Ok after) = record { refusal = refusal 0; attempt = after }
+taken_from a (Err r) = record { refusal = r; attempt = a }
+
+-- it tells all that the call comes to, of which the theorems speak
+pub record ResultsTell : Type 0 where
+  pub message : (a : Attempt) (start room : ℕ) (rows out : List ℕ)
+      → made_from a (offered_of (made_of a start room rows out)) ≡ made_of a start room rows out
+  pub take : (a : Attempt) (message answer rows : List ℕ)
+      → taken_from a (answered_of (taken_of a message answer rows)) ≡ taken_of a message answer rows
 
 -- an accepted one is what the attempt goes on by
 abbrev pub AcceptedGoesOn : Type 0

@@ -16,7 +16,7 @@ fn ok_at(message: &[u8], answer: &[u8], k: usize) -> bool
     matches!(outcome::ended(message, answer, k), Some(Status::Ok))
 }
 
-// Whether a part of an answer is these words.
+// Whether a part of an answer is these words. By a `for`: of `all` it would be left to prove that its run is `same`.
 fn same_words(part: &[u8], row: &[u32]) -> bool
     ensures { Compares part.now row.now result }
 {

@@ -24,6 +24,7 @@ use Rattle.initiator.specs.Outcome.{judged_in, judged_by}
 use Rattle.initiator.specs.Places.{most, sender_ok, place_in, waits_for, new_tag, with_one}
 use Rattle.initiator.specs.Sender.{idle, offering, sending, offer_by, moved_from, offer_of, hands_back, sent_by, send_of, send_fault, accepted_at, refused_take, taken_by, take_of}
 use Rattle.initiator.specs.Sender.{progress_at, take_by, taken_from, discovered_by, start_of}
+use Rattle.initiator.specs.Promises.{ResultsTell}
 use Rattle.initiator.proofs.Laws.Asked.{asked-means, as-away, given-err}
 use Rattle.initiator.proofs.Laws.Places.{ok-is, room-is, room-none}
 use Rattle.initiator.proofs.Laws.Waits.{none-waits, accepted-none}
@@ -143,3 +144,13 @@ module _ (s : Sender) (m : List ℕ) where
 
     pub take-refuses : (r : Refusal) → judged_by (read m) a ≡ Refused r → take_of s m a ≡ refused_take s r
     take-refuses r g = take-judged s m a e ∙ ap (taken_by s place) g
+
+pub results-tell : ResultsTell
+results-tell =
+    record {
+      offer = λ s m. offer-moved s m;
+      take = λ s m a. take-taken s m a;
+      sent = λ s m part e. let both = sent-whole s m e in (both.1, both.0);
+      unsent = λ s m r e. let both = sent-refused s m e in (both.1, both.0);
+      discovered = λ a. start-moved a;
+    }

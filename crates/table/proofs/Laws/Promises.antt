@@ -37,11 +37,13 @@ use Rattle.table.specs.declared.attempt.Attempt.{Attempt}
 use Rattle.table.specs.Calls.{Made}
 use Rattle.table.specs.Calls.{Taken}
 use Rattle.table.specs.Attempt.{Told, told_of, next_of, next_by}
-use Rattle.table.specs.Calls.{message_fault, made_of, made_to, taken_of}
+use Rattle.table.specs.Calls.{message_fault, made_of, made_to, taken_of, offered_of, answered_of, given_with, refused_with, next_bytes, taken_by}
+use Rattle.initiator.specs.Sender.{take_of}
+use Rattle.initiator.proofs.Laws.Promises.{accepted-plain}
 use Rattle.table.specs.Promises.{came_to, Well, AsSent, EveryRow, FirstNot, CameExactly, BegunWaiting}
 use Rattle.table.specs.Promises.{Came, begins, cleared, wrote, compared, marked}
 use Rattle.table.specs.Promises.{not-cleared, not_written, not-as-sent, not-marked}
-use Rattle.table.specs.Promises.{Ready, MessageReady, MessageStays, RefusedStays, AcceptedGoesOn}
+use Rattle.table.specs.Promises.{Ready, MessageReady, MessageStays, RefusedStays, AcceptedGoesOn, made_from, taken_from, ResultsTell}
 use Rattle.table.specs.Promises.{Call, gives, takes, attempt_after, heard_of, heard_in, AnyCalls}
 use Rattle.table.proofs.Laws.Came.{after-clear, not-clear, after-rows, not-rows, rows-or, after-back}
 use Rattle.table.proofs.Laws.Came.{not_back, back-or, after-mark, not-mark, well-or}
@@ -228,6 +230,40 @@ message-stays a start room rows out =
         ∙ put-behind out 0 m (omega arith) (made_of a start room rows out).length (omega (arith, long))
     go false e =
         ap (drop (made_of a start room rows out).length) (made-to-refused a start room rows out (eqb-false fault 0 e))
+
+-- a result tells all that its call comes to
+pub message-tells : (a : Attempt) (start room : ℕ) (rows out : List ℕ)
+    → made_from a (offered_of (made_of a start room rows out)) ≡ made_of a start room rows out
+unfolding made_of
+message-tells a start room rows out = go (eqb fault 0) refl
+  where
+    fault : ℕ
+    fault = message_fault a start room (length out)
+
+    m : List ℕ
+    m = next_bytes a.next a.sender.next start rows
+
+    go : (b : Bool) → eqb fault 0 ≡ b → made_from a (offered_of (cond b (given_with m a) (refused_with fault a))) ≡ cond b (given_with m a) (refused_with fault a)
+    go true e = refl
+    go false e = rw e refl
+
+pub take-tells : (a : Attempt) (message answer rows : List ℕ)
+    → taken_from a (answered_of (taken_of a message answer rows)) ≡ taken_of a message answer rows
+unfolding taken_of
+take-tells a message answer rows = go (eqb took.refusal.number 0) refl
+  where
+    took : Took
+    took = take_of a.sender message answer
+
+    next : Next
+    next = next_by rows a.next (told_of message answer)
+
+    go : (b : Bool) → eqb took.refusal.number 0 ≡ b → taken_from a (answered_of (taken_by took a next)) ≡ taken_by took a next
+    go true e = rw (e, accepted-plain a.sender message answer (eqb-true took.refusal.number 0 e)) refl
+    go false e = rw e (rw e refl)
+
+pub results-tell : ResultsTell
+results-tell = record { message = message-tells; take = take-tells }
 
 -- a refused answer ends nothing; by an accepted one the attempt goes on
 pub refused-stays : RefusedStays
