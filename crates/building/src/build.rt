@@ -78,17 +78,6 @@ impl Building {
     }
 }
 
-// Words into the output, from word `at` on. Every other byte stays. No `word::run::put_words`: its array of the most
-// words is dropped by the compiler in the controller's call and not here, and would stand on the stack.
-fn put_data(out: &mut [u8], at: usize, words: &[u32])
-    requires { 4 * (at + length words.now) ≤ length out.old }
-    ensures { out.new ≡ put_words out.old at words.now }
-{
-    for (i, w) in words.iter().enumerate() {
-        word::put_word(out, at + i, *w);
-    }
-}
-
 // A command: its header, then its address, then its data, into the output from word `at` on. Every other byte stays.
 fn put_command(out: &mut [u8], at: usize, h: u32, n: usize, address: u64, payload: &[u32])
     requires { (n ≤ 2)
@@ -100,7 +89,7 @@ fn put_command(out: &mut [u8], at: usize, h: u32, n: usize, address: u64, payloa
 {
     word::put_word(out, at, h);
     address::put_address(out, at + 1, n, address);
-    put_data(out, at + 1 + n, payload);
+    word::run::put_words(out, at + 1 + n, payload);
 }
 
 // Puts a command that nothing is wrong with behind the words so far, and counts it.

@@ -5,6 +5,7 @@ use Rattle.determined.proofs.Equal.{both, firsts, one_of, first_of, two-of}
 pub in-word : InWord
 in-word =
     record {
+      from_byte = λ M 𝓤 𝓛 mem run κs a g one other. first_of 𝓤;
       word_at = λ M 𝓤 𝓛 mem run κs a g one other. one_of 𝓤;
       put_word = λ M 𝓤 𝓛 mem run κs a g one other. one_of 𝓤;
       merge = λ M 𝓤 𝓛 mem run κs a g one other. one_of 𝓤;

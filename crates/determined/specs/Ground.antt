@@ -2,6 +2,7 @@
 -- function is lent something that it can change, what that then holds stands beside what is returned, or alone where
 -- nothing is returned. Assumes nothing.
 use Rattle.determined.specs.Public.{Determined, beside}
+use Rattle.word.specs.contracts.from_byte as FromByte
 use Rattle.word.specs.contracts.word_at as WordAt
 use Rattle.word.specs.contracts.put_word as PutWord
 use Rattle.word.specs.contracts.merge as Merge
@@ -66,6 +67,7 @@ use Rattle.tags.specs.contracts.sound.Sound.rule as Rule
 
 -- `word`
 pub record InWord : Type 2 where
+  pub from_byte : Determined FromByte.ended (λ M 𝓤. FromByte.clauses) (λ κs r e. r)
   pub word_at : Determined WordAt.ended (λ M 𝓤. WordAt.clauses) (λ κs r e. r)
   pub put_word : Determined PutWord.ended (λ M 𝓤. PutWord.clauses) (λ κs r e. e.0.now)
   pub merge : Determined Merge.ended (λ M 𝓤. Merge.clauses) (λ κs r e. r)

@@ -1,14 +1,15 @@
 -- From words to bytes and back: each is the other's inverse, and a word is found by its number. Whoever crosses from a
 -- datagram to its words cites these. Assumes nothing.
-use Prim.Native.Nat.{ℕ, zero, suc, ◌+◌, ◌-◌, ◌*◌, ◌/◌, ◌%◌, ◌<◌, ◌≤◌}
+use Prim.Native.Nat.{ℕ, zero, suc, ◌+◌, ◌*◌, ◌/◌, ◌%◌, ◌<◌, ◌≤◌}
 use mathlib.Core.Path.{◌≡◌, refl, sym, ap, ◌∙◌}
-use mathlib.Core.List.{List, [], ◌∷◌, ◌++◌, append-nil}
+use mathlib.Core.List.{List, [], ◌∷◌, ◌++◌, append_assoc, append-nil}
 use native.Mathlib.Omega.{arith}
 use lib.Arith.{mod-mul}
 use lib.Dec.{lit<}
-use lib.ListN.{length, take, drop, get_or, length-drop}
-use lib.Seq.{take_all}
-use Rattle.word.specs.Words.{word_of, words_of, bytes_of, Below, Bytes, Words}
+use lib.ListN.{length, take, get_or, set}
+use lib.Seq.{sets-eq, take_all}
+use native.Mathlib.Numerals.{add-one}
+use Rattle.word.specs.Words.{word_of, four_of, words_of, bytes_of, Below, Bytes, Words, put, put_words}
 use Rattle.word.specs.Promises.{WordsBack, BytesBack}
 
 -- a number by its digits, which `omega` joins where they are plain
@@ -65,34 +66,12 @@ front_bytes (suc n) (a ∷ []) h k = absurd (omega arith)
 front_bytes (suc n) (a ∷ b ∷ []) h k = absurd (omega arith)
 front_bytes (suc n) (a ∷ b ∷ c ∷ []) h k = absurd (omega arith)
 
--- the words of bytes from word k on, and the first words of bytes before others
-drop-words_of : (k : ℕ) (l : List ℕ) → drop k (words_of l) ≡ words_of (drop (4 * k) l)
-unfolding words_of
-drop-words_of zero l = refl
-drop-words_of (suc k) (a ∷ b ∷ c ∷ d ∷ l) =
-    let e : 4 * suc k ≡ suc (suc (suc (suc (4 * k)))) = omega arith in rw e (drop-words_of k l)
-drop-words_of (suc k) [] = let e : 4 * suc k ≡ suc (suc (suc (suc (4 * k)))) = omega arith in rw e
-drop-words_of (suc k) (a ∷ []) = let e : 4 * suc k ≡ suc (suc (suc (suc (4 * k)))) = omega arith in rw e
-drop-words_of (suc k) (a ∷ b ∷ []) = let e : 4 * suc k ≡ suc (suc (suc (suc (4 * k)))) = omega arith in rw e
-drop-words_of (suc k) (a ∷ b ∷ c ∷ []) = let e : 4 * suc k ≡ suc (suc (suc (suc (4 * k)))) = omega arith in rw e
-
-words-of-front : (n : ℕ) (l r : List ℕ) → 4 * n ≤ length l → take n (words_of (take (4 * n) l ++ r)) ≡ take n (words_of l)
-unfolding words_of
-words-of-front zero l r h = refl
-words-of-front (suc n) (a ∷ b ∷ c ∷ d ∷ l) r h =
-    let e : 4 * suc n ≡ suc (suc (suc (suc (4 * n)))) = omega arith in
-    rw e (ap (λ (x : List ℕ). word_of a b c d ∷ x) (words-of-front n l r (omega arith)))
-words-of-front (suc n) [] r h = absurd (omega arith)
-words-of-front (suc n) (a ∷ []) r h = absurd (omega arith)
-words-of-front (suc n) (a ∷ b ∷ []) r h = absurd (omega arith)
-words-of-front (suc n) (a ∷ b ∷ c ∷ []) r h = absurd (omega arith)
-
--- and the words that a stage holds in front, to which the bytes of n words from word `from` on were copied
-pub words-staged : (b r : List ℕ) (from n : ℕ) {k : ℕ} {s ws : List ℕ} → 4 * (from + n) ≤ length b
-    → s ≡ take (4 * (from + n) - 4 * from) (drop (4 * from) b) → ws ≡ take k (words_of (s ++ r)) → k ≡ n → ws ≡ take n (drop from (words_of b))
-words-staged b r from n h e f q =
-    let w : 4 * (from + n) - 4 * from ≡ 4 * n = omega arith in
-    f ∙ rw (q, e, w, drop-words_of) (words-of-front n (drop (4 * from) b) r (simp length-drop (omega arith)))
+-- words of the bytes b that are put in front of others: b's first bytes stand there
+pub words-in-front :
+    (out b : List ℕ) (n : ℕ) {ws t : List ℕ} → Bytes b → 4 * n ≤ length b → ws ≡ take n (words_of b)
+    → t ≡ put_words out 0 ws → t ≡ put out 0 (take (4 * n) b)
+unfolding put_words
+words-in-front out b n h k e f = f ∙ ap (put_words out 0) e ∙ ap (put out 0) (front_bytes n b h k)
 
 -- the words of bytes are words, a quarter as many
 pub words-below : (l : List ℕ) → Bytes l → Words (words_of l)
@@ -138,3 +117,13 @@ word-nth [] i h = absurd (omega arith)
 word-nth (a ∷ []) i h = absurd (omega arith)
 word-nth (a ∷ b ∷ []) i h = absurd (omega arith)
 word-nth (a ∷ b ∷ c ∷ []) i h = absurd (omega arith)
+
+-- four stores in a row are one word put
+pub four-stores : (l : List ℕ) (i w : ℕ) → 4 * i + 4 ≤ length l
+    → set (set (set (set l (4 * i) (w % 256)) (4 * i + 1) (w / 256 % 256)) (4 * i + 2) (w / 65536 % 256)) (4 * i + 3) (w / 16777216 % 256)
+    ≡ put_words l i (w ∷ [])
+unfolding put_words put bytes_of
+four-stores l i w h =
+    let e2 : 4 * i + 2 ≡ suc (suc (4 * i)) = omega arith in
+    let e3 : 4 * i + 3 ≡ suc (suc (suc (4 * i))) = omega arith in
+    rw (add-one, e2, e3, ← append_assoc) (sets-eq (four_of w) l (4 * i) h)

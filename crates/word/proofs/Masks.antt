@@ -1,12 +1,12 @@
 -- Words under a mask of whole bytes. The proofs of `covered` and `merge` cite these. Assumes nothing.
-use Prim.Native.Nat.{ℕ, zero, suc, ◌+◌, ◌*◌, ◌^◌, ◌/◌, ◌%◌, ◌<◌, suc-le-suc}
+use Prim.Native.Nat.{ℕ, zero, suc, ◌+◌, ◌*◌, ◌^◌, ◌/◌, ◌%◌, ◌<◌, ◌≤◌, suc-le-suc}
 use mathlib.Core.Path.{◌≡◌, refl, sym, ap, ap₂, ◌∙◌}
 use mathlib.Core.Bool.{Bool, true, false, cond, ◌&&◌}
 use native.Mathlib.Omega.{arith}
 use native.Mathlib.Nat.{not-suc-le-zero, le_of_suc-le-suc}
 use lib.Arith.{bin_ind}
 use lib.Dec.{T, eqb, eqb→eq, lit<}
-use lib.Bits.{differ, bit_and, bit_xor, and_block, xor_block, and_mask, and_zero_r, xor_zero_r, xor_step, xor_shr, xor_lt, and_lt, block_half, block_odd}
+use lib.Bits.{differ, bit_and, bit_xor, and_block, xor_block, and_mask, and_zero_r, xor_zero_r, xor_step, xor_shr, xor_lt, and_lt, and_le_r, block_half, block_odd}
 use lib.Ieee.Fits.{and_l, and_r}
 use Rattle.word.specs.Enables.{byte_of, bit_of, of_bytes, merged}
 use Rattle.word.proofs.Places.{byte-lt, chosen-lt, merge-whole}
@@ -84,6 +84,9 @@ product e = e * 0x20_4081
 
 abbrev computed : ℕ → ℕ
 computed e = bit_xor (bit_and (product e) 0x0101_0101 + 0x7F7F_7F7F) 0x7F7F_7F7F
+
+pub lowest-le : (e : ℕ) → bit_and (product e) 0x0101_0101 ≤ 0x0101_0101
+lowest-le e = and_le_r (product e) 0x0101_0101
 
 -- it is the mask at all sixteen patterns of enables, and higher bits cover nothing
 pub covers : (e : ℕ) → computed (e % 16) ≡ merged 0 0xFFFF_FFFF e

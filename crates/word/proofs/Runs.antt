@@ -8,7 +8,7 @@ use native.Mathlib.Numerals.{add-one}
 use native.Mathlib.Nat.{add-zero}
 use borrow.Rule.Slice.PartMut.{put_mid}
 use lib.ListN.{length, take, drop, get_or, set, length-append, length-drop, take-append-drop}
-use lib.Seq.{set_split, take-suc, take_at, drop_at, get_or_at, set_at, drop-append-add, drop-drop, length-take-le}
+use lib.Seq.{set_split, take-suc, take_at, drop_at, get_or_at, set_at, drop-append-add, drop-drop, length-take-le, take-length}
 use Rattle.word.specs.Words.{bytes_of, Below, put, put_words}
 
 -- nothing put
@@ -48,9 +48,27 @@ unfolding put
 part-is l at k {s} {t} e n = rw (e, n, drop-drop (length t) at l)
 
 -- what was put at a list's front is read back from it
+pub staged : (l s : List ℕ) (n : ℕ) {t : List ℕ} → n ≤ length s → t ≡ put l 0 (take n s) → take n t ≡ take n s
+unfolding put
+staged l s n h e = rw e (take_at (take n s) (drop (0 + length (take n s)) l) n (length-take-le n s h))
+
+pub staged-all : (l s : List ℕ) {t : List ℕ} → t ≡ put l 0 (take (length s) s) → take (length s) t ≡ s
+staged-all l s e = staged l s (length s) (omega arith) e ∙ take-length s
+
+-- and so is a whole run
 pub put_front : (l s : List ℕ) → take (length s) (put l 0 s) ≡ s
 unfolding put
 put_front l s = take_at s (drop (0 + length s) l) (length s) refl
+
+-- a list's first elements, read one by one
+pub first_two : (s : List ℕ) → 2 ≤ length s → get_or s 0 0 ∷ get_or s 1 0 ∷ [] ≡ take 2 s
+first_two [] h = absurd (omega arith)
+first_two (x ∷ []) h = absurd (omega arith)
+first_two (x ∷ y ∷ s) h = refl
+
+pub first_three : (s : List ℕ) → 3 ≤ length s → get_or s 0 0 ∷ get_or s 1 0 ∷ get_or s 2 0 ∷ [] ≡ take 3 s
+first_three [] h = absurd (omega arith)
+first_three (x ∷ s) h = ap (λ (l : List ℕ). x ∷ l) (first_two s (omega arith))
 
 -- a turn of a loop that puts the elements of s one by one
 module _ (l : List ℕ) (at : ℕ) (s : List ℕ) (i : ℕ) (h : i < length s) (k : at + i < length l) where

@@ -12,6 +12,15 @@ use Rattle.word.specs.Words.{word_of, words_of, Below, Bytes, same}
 use Rattle.word.specs.Promises.{SameExactly}
 use Rattle.word.proofs.Crossing.{byte0, byte1, byte2, byte3}
 
+-- a flag and a test that came out
+pub and-true : (b : Bool) → b ≡ b && true
+and-true true = refl
+and-true false = refl
+
+pub and-false : (b : Bool) → false ≡ b && false
+and-false true = refl
+and-false false = refl
+
 -- equal lists are the same, and the same lists equal
 pub same_self : (a : List ℕ) → same a a ≡ true
 unfolding same

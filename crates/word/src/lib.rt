@@ -5,9 +5,17 @@
 
 pub mod run;
 
-ghost use Rattle.std.specs.Prelude.{◌≡◌, ◌+◌, ◌*◌, ◌≤◌, ◌∷◌, [], length, get_or};
+ghost use Rattle.std.specs.Prelude.{◌≡◌, ◌+◌, ◌*◌, ◌<◌, ◌≤◌, ◌∷◌, [], length, get_or};
 ghost use Rattle.word.specs.Words.{words_of, put_words};
 ghost use Rattle.word.specs.Enables.{merged};
+
+// A byte as a number.
+pub fn from_byte(x: u8) -> u32
+    ensures value { result ≡ x }
+    ensures below { result < 256 }
+{
+    x as u32
+}
 
 // Word i of the bytes b.
 pub fn word_at(b: &[u8], i: usize) -> u32
@@ -15,7 +23,10 @@ pub fn word_at(b: &[u8], i: usize) -> u32
     ensures { result ≡ get_or (words_of b.now) i 0 }
 {
     let at = 4 * i;
-    u32::from_le_bytes([b[at], b[at + 1], b[at + 2], b[at + 3]])
+    from_byte(b[at])
+        + 256 * from_byte(b[at + 1])
+        + 65536 * from_byte(b[at + 2])
+        + 16777216 * from_byte(b[at + 3])
 }
 
 // Makes w word i of the bytes out. Every other byte stays.
@@ -24,7 +35,10 @@ pub fn put_word(out: &mut [u8], i: usize, w: u32)
     ensures { out.new ≡ put_words out.old i (w ∷ []) }
 {
     let at = 4 * i;
-    out[at..at + 4].copy_from_slice(&w.to_le_bytes());
+    out[at] = (w % 256) as u8;
+    out[at + 1] = (w / 256 % 256) as u8;
+    out[at + 2] = (w / 65536 % 256) as u8;
+    out[at + 3] = (w / 16777216 % 256) as u8;
 }
 
 // The bits of a word that the enables cover: ones merged into zeros. The product has a copy of the four enables every 7

@@ -1,11 +1,17 @@
--- `word::put_word` meets its contract: the four bytes are one word put. Assumes nothing.
+-- `word::put_word` meets its contract: four stores are one word put. Assumes nothing.
 use native.Mathlib.Omega.{arith}
-use Prim.Native.Nat.{◌*◌}
-use mathlib.Core.Path.{◌∙◌}
-use Rattle.word.specs.Words.{bytes_of, put_words}
-use Rattle.word.proofs.Runs.{part-is}
+use lib.ListN.{length-set}
+use Rattle.word.proofs.Crossing.{four-stores}
 use Rattle.word.proofs.put_word.Goals as goal
 
+pub bounds-out-at-2 : goal.bounds-out-at-2
+bounds-out-at-2 c = simp length-set (omega arith)
+
+pub bounds-out-at-3 : goal.bounds-out-at-3
+bounds-out-at-3 c = simp length-set (omega arith)
+
+pub bounds-out-at-4 : goal.bounds-out-at-4
+bounds-out-at-4 c = simp length-set (omega arith)
+
 pub returns : goal.returns
-unfolding put_words bytes_of
-returns c = part-is c.args.out.now (4 * c.args.i) _ (c.copy_from_slice.ensures.after ∙ c.to_le_bytes.ensures) (omega arith)
+returns c = four-stores c.args.out.now c.args.i c.args.w (omega arith)
