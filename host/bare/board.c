@@ -99,5 +99,6 @@ ALSO(__aeabi_memmove4);
     void name(void *to, size_t length) {                                                 \
         memset(to, 0, length);                                                           \
     }
+CLEARS(__aeabi_memclr)
 CLEARS(__aeabi_memclr4)
 CLEARS(__aeabi_memclr8)
