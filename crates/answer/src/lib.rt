@@ -41,7 +41,7 @@ impl TryFrom<u32> for Status {
             0 => Ok(Status::Ok),
             1 => Ok(Status::Timeout),
             2 => Ok(Status::Error),
-            _ => Err(()),
+            3.. => Err(()),
         }
     }
 }

@@ -8,7 +8,7 @@ use tags::record::TagRecord;
 
 // The controller, and where what it gives is printed.
 #[derive(Drop)]
-pub(crate) struct Bench<'a, P: Print + AllocGlobal> {
+pub(crate) struct Bench<'a, P: Print> {
     rt: &'a P,
     memory: [u32; 8],
     stored: [u32; TagRecord::STORED],
@@ -48,7 +48,7 @@ impl fmt::Display for Held {
     }
 }
 
-impl<'a, P: Print + AllocGlobal> Bench<'a, P> {
+impl<'a, P: Print> Bench<'a, P> {
     // "Memory of 8 zero words but word 4 = F00DFACE", and a record.
     pub(crate) fn of(rt: &'a P, tags: TagRecord) -> Bench<'a, P> {
         Bench {
@@ -95,12 +95,11 @@ impl<'a, P: Print + AllocGlobal> Bench<'a, P> {
         println!(self.rt; "{label}: {sent}; memory{memory}; {}", Held(self.tags))
     }
 
-    // The same of words.
+    // The same of words, 15 at most.
     pub(crate) fn takes(&mut self, label: &str, words: &[u32]) -> io::Result<()> {
-        let mut bytes = Vec::new(self.rt.alloc());
-        for w in words {
-            bytes.extend_from_slice(&w.to_le_bytes())?;
-        }
-        self.serves(label, &bytes)
+        let words = show::front(words, 15);
+        let mut bytes = [0u8; 60];
+        word::run::put_words(&mut bytes, 0, words);
+        self.serves(label, show::front(&bytes, 4 * words.len()))
     }
 }

@@ -2,11 +2,9 @@
 // words sent, the whole memory, and the record.
 #![tactic(auto)]
 
-use std::io;
-
 mod bench;
 mod sheet;
 
-fn main(rt: HostRuntime) -> io::Result<()> {
-    sheet::all(&rt)
+fn main() {
+    let _printed = sheet::all(&show::Out);
 }

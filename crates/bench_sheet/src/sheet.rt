@@ -33,14 +33,14 @@ const FIFTH_DIFFERS: [u32; 15] = [
     0x2222_2222,
 ];
 
-fn discoveries<R: Print + AllocGlobal>(rt: &R) -> io::Result<()> {
+fn discoveries<R: Print>(rt: &R) -> io::Result<()> {
     Bench::fresh(rt).takes("* NOP", &[0x8001_0080, 4])?;
     Bench::fresh(rt).takes("* forced read", &[0x8001_00A0, 0x10])?;
     Bench::fresh(rt).takes("* forced write", &[0x8001_0F90, 4, 0xFEED_C0DE])
 }
 
 // One message is held.
-fn one<R: Print + AllocGlobal>(rt: &R) -> io::Result<()> {
+fn one<R: Print>(rt: &R) -> io::Result<()> {
     let mut bench = Bench::fresh(rt);
     bench.takes("* (a)", &A)?;
     bench.takes("  a discovery write of 0", &[0x8001_0F90, 4, 0])?;
@@ -53,7 +53,7 @@ fn one<R: Print + AllocGlobal>(rt: &R) -> io::Result<()> {
 }
 
 // Commands that fail, and headers that are refused.
-fn failing<R: Print + AllocGlobal>(rt: &R) -> io::Result<()> {
+fn failing<R: Print>(rt: &R) -> io::Result<()> {
     Bench::fresh(rt).takes("* read past the end", &[0x8002_0020, 0x1C])?;
     let second_past_the_end = [0x0001_0F10, 0, 0x1111_1111, 0x8001_0F10, 0x20, 0x2222_2222];
     Bench::fresh(rt).takes("* OK, then past the end", &second_past_the_end)?;
@@ -64,7 +64,7 @@ fn failing<R: Print + AllocGlobal>(rt: &R) -> io::Result<()> {
 }
 
 // What a record may say is held.
-fn limits<R: Print + AllocGlobal>(rt: &R) -> io::Result<()> {
+fn limits<R: Print>(rt: &R) -> io::Result<()> {
     Bench::held(rt, 2243, 1).takes("* a stored answer of the limit", &A)?;
     Bench::held(rt, 2244, 1).takes("* and of one word more", &A)?;
     Bench::held(rt, 1, 2243).takes("* a kept request of the limit", &A)?;
@@ -72,7 +72,7 @@ fn limits<R: Print + AllocGlobal>(rt: &R) -> io::Result<()> {
 }
 
 // [7] A held tag with other bytes.
-fn other_bytes<R: Print + AllocGlobal>(rt: &R) -> io::Result<()> {
+fn other_bytes<R: Print>(rt: &R) -> io::Result<()> {
     let mut bench = Bench::fresh(rt);
     bench.takes("  (a)", &A)?;
     bench.takes(
@@ -88,7 +88,7 @@ fn other_bytes<R: Print + AllocGlobal>(rt: &R) -> io::Result<()> {
 }
 
 // [9] A fresh record, and four that are held.
-fn four<R: Print + AllocGlobal>(rt: &R) -> io::Result<()> {
+fn four<R: Print>(rt: &R) -> io::Result<()> {
     Bench::fresh(rt).takes("* fresh, tag 1", &TAG_1)?;
     Bench::fresh(rt).takes("* fresh, tag 15", &[0x8001_0F1F, 4, 0xFEED_C0DE])?;
     let mut bench = Bench::fresh(rt);
@@ -104,7 +104,7 @@ fn four<R: Print + AllocGlobal>(rt: &R) -> io::Result<()> {
 }
 
 // A fifth message behind them.
-fn fifth<R: Print + AllocGlobal>(bench: &mut Bench<'_, R>) -> io::Result<()> {
+fn fifth<R: Print>(bench: &mut Bench<'_, R>) -> io::Result<()> {
     bench.takes("* tag 15, an older one", &[0x8001_002F, 0x10])?;
     bench.takes("* tag 5, an early one", &[0x8001_0025, 0x10])?;
     bench.takes("  tag 4, the next", &TAG_4)?;
@@ -116,7 +116,7 @@ fn fifth<R: Print + AllocGlobal>(bench: &mut Bench<'_, R>) -> io::Result<()> {
 }
 
 // The lines without a star.
-fn unmarked<R: Print + AllocGlobal>(rt: &R) -> io::Result<()> {
+fn unmarked<R: Print>(rt: &R) -> io::Result<()> {
     Bench::fresh(rt).serves("  no bytes", &[])?;
     Bench::fresh(rt).serves("  3 bytes", &[0x10, 0x0F, 0x01])?;
     Bench::fresh(rt).takes("  count 0", &[0x8000_0F10, 4])?;
@@ -125,7 +125,7 @@ fn unmarked<R: Print + AllocGlobal>(rt: &R) -> io::Result<()> {
     Bench::fresh(rt).takes("  one word longer", &[0x88C3_0020, 0])
 }
 
-pub(crate) fn all<R: Print + AllocGlobal>(rt: &R) -> io::Result<()> {
+pub(crate) fn all<R: Print>(rt: &R) -> io::Result<()> {
     discoveries(rt)?;
     one(rt)?;
     failing(rt)?;

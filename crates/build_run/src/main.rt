@@ -160,10 +160,14 @@ fn reads(rt: &impl Print) -> io::Result<()> {
     )
 }
 
-fn main(rt: HostRuntime) -> io::Result<()> {
-    fixed(&rt)?;
-    nops(&rt)?;
-    writes(&rt)?;
-    reads(&rt)?;
-    refused::tries(&rt)
+fn all(rt: &impl Print) -> io::Result<()> {
+    fixed(rt)?;
+    nops(rt)?;
+    writes(rt)?;
+    reads(rt)?;
+    refused::tries(rt)
+}
+
+fn main() {
+    let _printed = all(&show::Out);
 }

@@ -54,7 +54,7 @@ gapped_at address number words =
 unfoldable pub bench_sheet : List Line
 bench_sheet = gapped_at 8 0 (gapped 8) ∷ gapped_at 12 24 [] ∷ gapped_at 4294967304 25 [] ∷ gapped_at 4294967308 24 [] ∷ []
 
--- a caller that takes no notice of a refused begin, 21: adding the first line's command and closing are 21 too
+-- of the record beside a refused begin, 21, which no call gives: adding the first line's command and closing are 21 too
 pub record Stops (b : Built) : Type 0 where
   pub begin : b.refusal ≡ refusal 21
   pub add : (added bench_out b.building (gapped_at 8 0 []).asked gapped_words).refusal ≡ refusal 21

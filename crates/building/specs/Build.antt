@@ -42,7 +42,8 @@ opened kind tag wide discovery =
       closed = false;
     }
 
--- what a refused begin hands back: a record of kind 3, which 21 refuses (`RefusedBeginStops` in specs/Promises.antt)
+-- the record beside a refused begin, which no call gives: of kind 3, which 21 refuses (`RefusedBeginStops` in
+-- specs/Promises.antt)
 abbrev pub no_building : Building
 no_building = opened 3 0 false false
 

@@ -28,7 +28,7 @@ pub record Stopped (b : Building) : Type 0 where
       → (added out b asked payload ≡ gives 21 b) × (added_to out b asked payload ≡ out)
   pub close : (out : List ℕ) → (closed out b ≡ gives 21 b) × (closed_to out b ≡ out)
 
--- a caller that goes on with a refused begin's record is stopped at the next call
+-- whoever went on with the record beside a refused begin, which no call gives, would be stopped at the next call
 abbrev pub RefusedBeginStops : Type 0
 RefusedBeginStops =
     (room kind tag : ℕ) (wide discovery : Bool) → ((begun room kind tag wide discovery).refusal ≡ refusal 0 → ⊥)

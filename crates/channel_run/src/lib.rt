@@ -1,5 +1,5 @@
 // What the programs share that play a night between the two ends: a message or an answer as bytes, a channel, and each
-// end's calls on their real functions, which print what they gave.
+// end's calls on their real functions, and how what they gave is printed.
 //
 // No contract can say what is written. What only prints is safe, ends, and reads what it is lent; what a call gives,
 // its contract says.

@@ -1,6 +1,6 @@
 // The loader's end: what is sent of a message, and how what the sender's calls gave is printed.
 ghost use Rattle.std.specs.Prelude.{◌≡◌};
-ghost use Rattle.initiator.specs.Sender.{take_of};
+ghost use Rattle.initiator.specs.Sender.{start_of, take_of};
 ghost use Rattle.channel_run.specs.Bytes.{datagram_in};
 ghost use Rattle.channel_run.specs.Loader.{sent_of, offered, took};
 
@@ -9,6 +9,14 @@ use header::refusal::Refusal;
 use initiator::outcome;
 use initiator::sender::{Moved, Sender, Taken};
 use std::fmt;
+
+// The answer to its discovery comes to a loader: the refusal, and the sender that it begins with, which 37 stops where
+// the answer is refused.
+pub fn hear(answer: &Bytes) -> Moved
+    ensures { result ≡ start_of (datagram_in answer.now) }
+{
+    Moved::of(Sender::discovered(answer.as_slice()), Sender::stopped())
+}
 
 // What is sent of a message: nothing where it does not wait.
 pub fn send(s: Sender, message: &Bytes) -> Bytes

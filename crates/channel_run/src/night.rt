@@ -1,14 +1,16 @@
 // A night of lives over one controller: a loader loses all it knows at any moment, and with a reset of the controller
 // so does that. What a program's loader is, the program says.
-ghost use Rattle.std.specs.Prelude.{◌≡◌, replicate};
+ghost use Rattle.std.specs.Prelude.{◌≡◌, replicate, IfOk};
 ghost use Rattle.message.specs.Discovery.{discovery_bytes};
+ghost use Rattle.initiator.specs.declared.sender.Sender.{Sender};
+ghost use Rattle.initiator.specs.Sender.{start_of};
 ghost use Rattle.channel_run.specs.Bytes.{no_bytes, datagram_in, place_of};
 ghost use Rattle.channel_run.specs.Controller.{fresh_with, answering_after};
-ghost use Rattle.channel_run.specs.Night.{end_of, stranger_bytes};
+ghost use Rattle.channel_run.specs.Night.{end_of, stranger_bytes, ended_by};
 
-use crate::Channel;
 use crate::controller::{Answering, Arrived, Controller};
-use initiator::sender::{Moved, Sender};
+use crate::{Channel, loader};
+use initiator::sender::Sender;
 use message::discovery;
 use std::{fmt, io};
 use tags::record::TagRecord;
@@ -35,6 +37,17 @@ impl End {
             _ => End::Over,
         }
     }
+
+    // The controller after a life that ends so. A reset: the record is fresh, and the other buffers hold something
+    // else.
+    fn leave(self, controller: &mut Controller)
+        ensures { controller.new ≡ ended_by self controller.old }
+    {
+        match self {
+            End::Reset => *controller = Controller::fresh(7),
+            End::Restart | End::Over => {},
+        }
+    }
 }
 
 impl fmt::Display for End {
@@ -50,11 +63,15 @@ impl fmt::Display for End {
 
 // What a program's own loader does in a night over so many words of memory.
 pub trait Loader<const WORDS: usize>: Copy {
+    // Its sender.
+    ghost sender_of: { Self → Sender };
+
     // That of the next life, before it has begun: its sender is one that 37 stops.
     fn next(&self) -> Self;
 
     // It begins with this sender, at which none waits.
-    fn begins(&mut self, sender: Sender);
+    fn begins(&mut self, sender: Sender)
+        ensures { sender.waiting ≡ 0 → sender_of self.new ≡ sender };
 
     // A datagram has come to the controller, whose record was this before and is then; prints the rest of the line.
     fn arrived(
@@ -133,11 +150,13 @@ impl<L: Loader<WORDS>, const WORDS: usize> Night<L, WORDS> {
 
     // The answer to datagram i comes to the loader as that to its discovery.
     pub fn hears(&mut self, rt: &impl Print, i: u32) -> io::Result<()>
+        ensures begins { (start_of (datagram_in (place_of self.old.answering.answers.places i))).sender.waiting ≡ 0
+            → L.sender_of self.new.loader
+            ≡ (start_of (datagram_in (place_of self.old.answering.answers.places i))).sender }
         ensures requests { self.new.requests ≡ self.old.requests }
         ensures answering { self.new.answering ≡ self.old.answering }
     {
-        let found = Sender::discovered(self.answering.answers.get(i).as_slice());
-        let moved = Moved::of(found, Sender::stopped());
+        let moved = loader::hear(&self.answering.answers.get(i));
         self.loader.begins(moved.sender);
         println!(rt;
             ": refusal {}, next {}",
@@ -145,15 +164,16 @@ impl<L: Loader<WORDS>, const WORDS: usize> Night<L, WORDS> {
         )
     }
 
-    // The life is over, and the next finds what it left: nothing is in the channel. A reset: the record is fresh, and
-    // the other buffers hold something else.
+    // The life is over, and the next finds what it left: nothing is in the channel.
     pub fn ends(&mut self, rt: &impl Print, end: End) -> io::Result<()>
         ensures memory { self.new.answering.memory ≡ self.old.answering.memory }
+        ensures controller { IfOk result (λ u. self.new.answering.controller
+            ≡ ended_by end self.old.answering.controller) }
+        ensures requests { IfOk result (λ u. self.new.requests.places ≡ replicate 8 no_bytes) }
+        ensures answers { IfOk result (λ u. self.new.answering.answers.places ≡ replicate 8 no_bytes) }
     {
         self.loader.say_end(rt, end, &self.answering.memory)?;
-        if end == End::Reset {
-            self.answering.controller = Controller::fresh(7);
-        }
+        end.leave(&mut self.answering.controller);
         self.loader = self.loader.next();
         self.requests = Channel::empty();
         self.answering.answers = Channel::empty();

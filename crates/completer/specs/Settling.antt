@@ -1,5 +1,5 @@
--- What the calls inside `serve` go by: what a call gives, the record that follows `dispatch`, and what nobody else
--- needs to read. Assumes nothing.
+-- What `serve` and `dispatch` leave by what they give (`gave`, `sent_by`, `follows`), and what the calls inside go by,
+-- which nobody else needs to read. Assumes nothing.
 use Rattle.std.specs.Prelude.{ℕ, ◌*◌, ◌≡◌, Bool, true, false, List, Result, Ok, Err, Option, Some, None}
 use Rattle.word.specs.Words.{put, put_words}
 use Rattle.header.specs.declared.refusal.Refusal.{Refusal}

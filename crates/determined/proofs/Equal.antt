@@ -1,7 +1,7 @@
 -- From two contracts that hold to what follows of their results. Assumes nothing.
 use mathlib.Core.Path.{◌≡◌, sym, ◌∙◌}
 use seplogic.Ra.Ura.{Ura}
-use base.Logic.{ent, sep, via, fst∗}
+use base.Logic.{SProp, ent, sep, via, fst∗, snd∗}
 use contract.Monad.{conj, conj_l, conj_r, conj_mono, fact, fact_i, fact_use}
 use Rattle.determined.specs.Public.{beside}
 
@@ -15,6 +15,17 @@ module _ {M : Type 1} (𝓤 : Ura M) where
   pub firsts : {φ ψ χ σ τ : Type 0} → (φ → ψ → χ) → ent 𝓤 (conj 𝓤 (sep 𝓤 (fact 𝓤 φ) (fact 𝓤 σ)) (sep 𝓤 (fact 𝓤 ψ) (fact 𝓤 τ))) (fact 𝓤 χ)
   firsts {φ} {ψ} {χ} {σ} {τ} f =
       via 𝓤 (conj 𝓤 (fact 𝓤 φ) (fact 𝓤 ψ)) (conj_mono 𝓤 (fst∗ 𝓤 (fact 𝓤 φ) (fact 𝓤 σ)) (fst∗ 𝓤 (fact 𝓤 ψ) (fact 𝓤 τ))) (both f)
+
+  -- and where what follows stands on both clauses of each
+  pub clauses : {φ ψ χ σ τ : Type 0} → (φ → σ → ψ → τ → χ) → ent 𝓤 (conj 𝓤 (sep 𝓤 (fact 𝓤 φ) (fact 𝓤 σ)) (sep 𝓤 (fact 𝓤 ψ) (fact 𝓤 τ))) (fact 𝓤 χ)
+  clauses {φ} {ψ} {χ} {σ} {τ} f =
+      let one : SProp 𝓤 = sep 𝓤 (fact 𝓤 φ) (fact 𝓤 σ) in
+      let other : SProp 𝓤 = sep 𝓤 (fact 𝓤 ψ) (fact 𝓤 τ) in
+      fact_use 𝓤 φ (via 𝓤 one (conj_l 𝓤 one other) (fst∗ 𝓤 (fact 𝓤 φ) (fact 𝓤 σ))) (λ x.
+      fact_use 𝓤 σ (via 𝓤 one (conj_l 𝓤 one other) (snd∗ 𝓤 (fact 𝓤 φ) (fact 𝓤 σ))) (λ s.
+      fact_use 𝓤 ψ (via 𝓤 other (conj_r 𝓤 one other) (fst∗ 𝓤 (fact 𝓤 ψ) (fact 𝓤 τ))) (λ y.
+      fact_use 𝓤 τ (via 𝓤 other (conj_r 𝓤 one other) (snd∗ 𝓤 (fact 𝓤 ψ) (fact 𝓤 τ))) (λ t.
+      fact_i 𝓤 χ _ (f x s y t)))))
 
   -- a contract of one equation; with a second clause; and one of two equations
   pub one_of : {A : Type 0} {x y z : A} → ent 𝓤 (conj 𝓤 (fact 𝓤 (x ≡ z)) (fact 𝓤 (y ≡ z))) (fact 𝓤 (x ≡ y))

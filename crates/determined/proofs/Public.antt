@@ -2,22 +2,42 @@
 -- nothing.
 use mathlib.Core.Path.{◌≡◌, sym, ap, ◌∙◌}
 use mathlib.Core.Bool.{true, false, false≢true}
-use Rattle.std.specs.Prelude.{Result, Ok, Err, MatchResult}
+use Rattle.std.specs.Prelude.{ℕ, ◌≢◌, List, Result, Ok, Err, IfErr, MatchResult}
 use Rattle.header.specs.declared.refusal.Refusal.{Refusal}
 use Rattle.header.specs.Refusal.{refusal}
+use Rattle.completer.specs.Controller.{Controller, After}
+use Rattle.completer.specs.declared.serving.Done.{Done}
+use Rattle.completer.specs.Settling.{gave, sent_by}
 use Rattle.initiator.specs.declared.sender.Sender.{Sender}
 use Rattle.initiator.specs.declared.places.Checked.{Checked}
 use Rattle.initiator.specs.Places.{sender_ok}
-use Rattle.determined.specs.Public.{seen_by, Controlling, Building, Sending, Training, InC}
-use Rattle.determined.proofs.Equal.{both, one_of, first_of, two-of}
+use Rattle.determined.specs.Public.{beside, seen_by, Controlling, Building, Sending, Training, InC}
+use Rattle.determined.proofs.Equal.{both, clauses, one_of, first_of, two-of}
+
+pair-is : {A B : Type 0} {x y : A} {u v : B} → x ≡ y → u ≡ v → beside x u ≡ beside y v
+pair-is p q = rw (p, q)
+
+-- what the controller's call gave is told by what it leaves: a refusal by its number, which is not 0
+gave-same : (x y : Result ℕ Refusal) (c d : Controller) (o p : List ℕ) (z : After)
+    → gave x c o ≡ z → IfErr x (λ r. r.number ≢ 0) → gave y d p ≡ z → IfErr y (λ r. r.number ≢ 0)
+    → beside x (gave x c o) ≡ beside y (gave y d p)
+gave-same (Ok n) (Ok m) c d o p z e f g h = pair-is (ap (λ a. Ok a.sent) (e ∙ sym g)) (e ∙ sym g)
+gave-same (Ok n) (Err r) c d o p z e f g h = absurd (h (ap (λ a. a.refusal.number) (g ∙ sym e)))
+gave-same (Err r) (Ok n) c d o p z e f g h = absurd (f (ap (λ a. a.refusal.number) (e ∙ sym g)))
+gave-same (Err r) (Err s) c d o p z e f g h = pair-is (ap (λ a. Err a.refusal) (e ∙ sym g)) (e ∙ sym g)
+
+-- and what `dispatch` gave, as far as it says what is sent
+sent-err : (r : Result Done Refusal) → IfErr r (λ e. e.number ≢ 0) → IfErr (sent_by r) (λ e. e.number ≢ 0)
+sent-err (Ok d) p = p
+sent-err (Err r) p = p
 
 pub controlling : Controlling
 controlling =
     record {
       verdict-of = λ M 𝓤 𝓛 mem run κs a g one other. one_of 𝓤;
-      dispatch = λ M 𝓤 𝓛 mem run κs a g one other. first_of 𝓤;
+      dispatch = λ M 𝓤 𝓛 mem run κs a g one other. clauses 𝓤 (λ e p f q. gave-same _ _ _ _ _ _ _ e (sent-err one.0 p) f (sent-err other.0 q));
       follow = λ M 𝓤 𝓛 mem run κs a g one other. one_of 𝓤;
-      serve = λ M 𝓤 𝓛 mem run κs a g one other. first_of 𝓤;
+      serve = λ M 𝓤 𝓛 mem run κs a g one other. clauses 𝓤 (gave-same _ _ _ _ _ _ _);
       in_place = λ M 𝓤 𝓛 mem run κs a g one other. one_of 𝓤;
     }
 
@@ -93,6 +113,8 @@ in_c =
       count = λ M 𝓤 𝓛 mem run κs a g one other. one_of 𝓤;
       status = λ M 𝓤 𝓛 mem run κs a g one other. one_of 𝓤;
       read-data = λ M 𝓤 𝓛 mem run κs a g one other. first_of 𝓤;
+      attempt-of = λ M 𝓤 𝓛 mem run κs a g one other. one_of 𝓤;
+      numbers-of = λ M 𝓤 𝓛 mem run κs a g one other. one_of 𝓤;
       set-up = λ M 𝓤 𝓛 mem run κs a g one other. one_of 𝓤;
       attempt = λ M 𝓤 𝓛 mem run κs a g one other. one_of 𝓤;
       table-message = λ M 𝓤 𝓛 mem run κs a g one other. two-of 𝓤;

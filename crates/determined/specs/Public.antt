@@ -60,6 +60,8 @@ use Rattle.loader.specs.contracts.sending.charkhavo_take as TakeInC
 use Rattle.loader.specs.contracts.outcome.charkhavo_count as CountInC
 use Rattle.loader.specs.contracts.outcome.charkhavo_status as StatusInC
 use Rattle.loader.specs.contracts.outcome.charkhavo_read_data as ReadDataInC
+use Rattle.loader.specs.contracts.training.AttemptFromTableAttempt.from as AttemptOf
+use Rattle.loader.specs.contracts.training.TableAttemptFromAttempt.from as NumbersOf
 use Rattle.loader.specs.contracts.training.charkhavo_set_up as SetUpInC
 use Rattle.loader.specs.contracts.training.charkhavo_attempt as AttemptInC
 use Rattle.loader.specs.contracts.training.charkhavo_table_message as MessageInC
@@ -92,21 +94,21 @@ Determined T contract back = DeterminedWith T contract (λ κs a r e. back κs r
 abbrev pub beside : {A B : Type 0} → A → B → A × B
 beside r output = (r, output)
 
--- The controller: the refusal, the bytes sent, memory, stored answers, kept requests, record and output, all of them.
+-- The controller: the refusal or the bytes sent, memory, stored answers, kept requests, record and output, all of them.
 -- `dispatch` gives no record: it is the one that `follow` makes of what it gives and of the record that came in. What a
 -- message is kept with stands in that record, and is open where it does not.
 pub record Controlling : Type 2 where
   pub verdict-of : Determined VerdictOf.ended (λ M 𝓤. VerdictOf.clauses) (λ κs r e. r)
   pub dispatch :
       DeterminedWith Dispatch.ended (λ M 𝓤. Dispatch.clauses)
-      (λ κs a r e. gave (sent_by r)
-      (lent e.0.now e.1.0.now e.1.1.0.now (follows a.1.1.1.1.0 r)) e.1.1.1.0.now)
+      (λ κs a r e. beside (sent_by r) (gave (sent_by r)
+      (lent e.0.now e.1.0.now e.1.1.0.now (follows a.1.1.1.1.0 r)) e.1.1.1.0.now))
   pub follow : Determined Follow.ended (λ M 𝓤. Follow.clauses) (λ κs r e. r)
   pub serve :
       Determined Serve.ended (λ M 𝓤. Serve.clauses)
       (λ κs r e.
-      gave r (lent e.0.now e.1.0.now e.1.1.0.now e.1.1.1.1.0.now)
-      e.1.1.1.0.now)
+      beside r (gave r (lent e.0.now e.1.0.now e.1.1.0.now e.1.1.1.1.0.now)
+      e.1.1.1.0.now))
   pub in_place :
       Determined ServeInPlace.ended (λ M 𝓤. ServeInPlace.clauses)
       (λ κs r e.
@@ -170,6 +172,8 @@ pub record InC : Type 2 where
   pub count : Determined CountInC.ended (λ M 𝓤. CountInC.clauses) (λ κs r e. r)
   pub status : Determined StatusInC.ended (λ M 𝓤. StatusInC.clauses) (λ κs r e. r)
   pub read-data : Determined ReadDataInC.ended (λ M 𝓤. ReadDataInC.clauses) (λ κs r e. r)
+  pub attempt-of : Determined AttemptOf.ended (λ M 𝓤. AttemptOf.clauses) (λ κs r e. r)
+  pub numbers-of : Determined NumbersOf.ended (λ M 𝓤. NumbersOf.clauses) (λ κs r e. r)
   pub set-up : Determined SetUpInC.ended (λ M 𝓤. SetUpInC.clauses) (λ κs r e. r)
   pub attempt : Determined AttemptInC.ended (λ M 𝓤. AttemptInC.clauses) (λ κs r e. r)
   pub table-message : Determined MessageInC.ended (λ M 𝓤. MessageInC.clauses) (λ κs r e. beside r e.0.now)

@@ -39,7 +39,7 @@ impl From<u32> for Kind {
 
 // The number of a kind.
 impl From<Kind> for u32 {
-    ghost from_gives = { λ kind n. n ≡ number_of kind };
+    ghost from_gives = { λ kind n. (n ≡ number_of kind) × (n < 4) };
 
     fn from(kind: Kind) -> u32 {
         kind as u32

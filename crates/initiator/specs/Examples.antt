@@ -9,7 +9,7 @@ use Rattle.message.specs.Walk.{read}
 use Rattle.answer.specs.declared.Status.{Status}
 use Rattle.answer.specs.declared.Status.TheVariants.{Ok, Timeout, Error}
 use Rattle.initiator.specs.declared.outcome.Outcome.{Outcome}
-use Rattle.initiator.specs.Outcome.{judged_by, part_in, cut, data_in, outcome_of}
+use Rattle.initiator.specs.Outcome.{judged_by, count_in, ending_in, part_in, cut, data_in, outcome_of}
 
 -- a line: what a call gives, and what it must give
 pub record Line (A : Type 0) : Type 0 where
@@ -33,9 +33,12 @@ read_two = bytes_of (0x80020020 ∷ 0x0000001C ∷ [])
 abbrev pub two_writes : ℕ → List ℕ
 two_writes h = bytes_of (0x00010F10 ∷ 0x00000000 ∷ 0x11111111 ∷ h ∷ 0x00000020 ∷ 0x22222222 ∷ [])
 
--- what is told of an answer and of command k: the outcome, the bytes of its part, and its data words
+-- what is told of an answer and of command k: the outcome, how many commands were answered and how this one ended, the
+-- bytes of its part, and its data words
 pub record Told : Type 0 where
   pub outcome : Result Outcome Refusal
+  pub count : ℕ
+  pub ending : Option Status
   pub part : List ℕ
   pub words : List ℕ
 
@@ -43,6 +46,8 @@ abbrev pub told : List ℕ → List ℕ → ℕ → Told
 told request answer k =
     record {
       outcome = outcome_of request answer k;
+      count = count_in (judged_by (read request) answer);
+      ending = ending_in k (judged_by (read request) answer);
       part = cut (part_in (kind_of (get_or request 0 0)) k (judged_by (read request) answer)) answer;
       words = data_in (kind_of (get_or request 0 0)) k (judged_by (read request) answer);
     }
@@ -55,6 +60,8 @@ tells request answer k count ending start end words =
       is =
           record {
             outcome = Tells (record { count = count; ending = ending; part = record { start = start; end = end } });
+            count = count;
+            ending = ending;
             part = bytes_of words;
             words = words;
           };
@@ -72,6 +79,8 @@ silent request answer n at =
       is =
           record {
             outcome = Err (refused_at n at);
+            count = 0;
+            ending = None;
             part = [];
             words = [];
           };

@@ -32,10 +32,12 @@ pub fn count_ok(kind: Kind, count: usize) -> bool
 fn zeros_ok(count: usize, first: u32, last: u32) -> bool
     ensures { result ≡ zeros_ok count first last }
 {
-    if count == 1 {
-        last == 0
-    } else {
-        first != 0 && last != 0
+    match count {
+        1 => last == 0,
+        _ => match first {
+            0 => false,
+            1.. => last != 0,
+        },
     }
 }
 
@@ -43,14 +45,19 @@ fn zeros_ok(count: usize, first: u32, last: u32) -> bool
 fn gaps_ok(count: usize, address: u64) -> bool
     ensures { result ≡ gaps_ok count address }
 {
-    count == 1 || count == 2 && address % 8 == 0
+    match count {
+        0 => false,
+        1 => true,
+        2 => address % 8 == 0,
+        3.. => false,
+    }
 }
 
 // Whether a first field goes up to its word's end without a gap.
 fn first_field_ok(first: u32) -> bool
     ensures { result ≡ first_field_ok first }
 {
-    matches!(first, 0xF | 0xE | 0xC | 0x8)
+    matches!(first, 0x8 | 0xC | 0xE..=0xF)
 }
 
 // Whether a last field goes on from its word's start without a gap.

@@ -3,25 +3,25 @@
 #![tactic(auto)]
 
 use night::{Line, Night};
-use std::io::Write;
 
-// The descriptor of standard input.
+// The descriptors of standard input and output. What output does not take is lost, and the night goes on.
 const STDIN: i32 = 0;
 
-fn main(rt: HostRuntime) -> std::io::Result<()> {
+const STDOUT: i32 = 1;
+
+fn main() {
     let mut night = Night::start();
     let mut recorded = [0u8; night::RECORD];
     let mut line = Line::over([0; night::LINE]);
-    let mut out = std::io::writer(&rt);
     for k in 1..=u64::MAX {
         // The input may end within a record, which `read_exact` would make an error.
         let n = io::read_full(STDIN, &mut recorded);
         let more = night.play(k, show::front(&recorded, n), &mut line);
-        out.write_all(line.text())?;
+        io::write_all(STDOUT, line.text());
         if !more {
             break;
         }
     }
     night.last(&mut line);
-    out.write_all(line.text())
+    io::write_all(STDOUT, line.text());
 }

@@ -106,6 +106,8 @@ impl fmt::Display for Life {
 }
 
 impl Loader<3> for Life {
+    ghost sender_of = { λ life. life.sender };
+
     fn next(&self) -> Life {
         Life::new(self.number % 256 + 1)
     }
@@ -158,11 +160,15 @@ fn play(rt: &impl Print, night: &mut Night<Life, 3>, event: Event) -> io::Result
 }
 
 // Last summer's words stand in memory.
-fn main(rt: HostRuntime) -> io::Result<()> {
+fn night(rt: &impl Print) -> io::Result<()> {
     let mut night = Night::new(Life::new(1), [0x51, 0x52, 0x53]);
     for event in script::NIGHT.split_whitespace().filter_map(Event::read) {
         print!(rt; "{event}")?;
-        play(&rt, &mut night, event)?;
+        play(rt, &mut night, event)?;
     }
     Ok(())
+}
+
+fn main() {
+    let _printed = night(&show::Out);
 }

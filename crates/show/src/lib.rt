@@ -1,9 +1,85 @@
-// What programs print: runs of words and of bytes; and the front of a slice.
+// What programs print: runs of words and of bytes; where they print it; and the front of a slice.
+//
+// No contract can say what is written.
 #![tactic(auto)]
 
-ghost use Rattle.std.specs.Prelude.{◌≡◌, take};
+ghost use Rattle.std.specs.Prelude.{◌≡◌, ◌≤◌, take};
 
 use std::fmt;
+
+// The descriptor of standard output.
+const STDOUT: i32 = 1;
+
+// Standard output. What it does not take is lost, and the program goes on.
+#[derive(Clone, Copy)]
+pub struct Out;
+
+impl Print for Out {
+    fn print<D: fmt::Display + Drop>(&self, value: D) -> std::io::Result<()> {
+        say(value, "")
+    }
+
+    fn println<D: fmt::Display + Drop>(&self, value: D) -> std::io::Result<()> {
+        say(value, "\n")
+    }
+
+    fn write_all(&self, bytes: &[u8]) -> std::io::Result<()> {
+        io::write_all(STDOUT, bytes);
+        Ok(())
+    }
+}
+
+// Writes a value, and `end` behind it; it gives no error, whatever becomes of them.
+fn say<D: fmt::Display + Drop>(value: D, end: &str) -> std::io::Result<()> {
+    let mut f = fmt::Formatter::new(Gathered::empty());
+    let _printed = f.write(&value);
+    let _ended = f.write(end);
+    f.into_inner().out();
+    Ok(())
+}
+
+// Bytes that are written together.
+#[derive(Drop)]
+struct Gathered {
+    bytes: [u8; 1024],
+    n: usize,
+    ghost within: { n ≤ 1024 },
+}
+
+impl Gathered {
+    fn empty() -> Gathered {
+        Gathered {
+            bytes: [0; 1024],
+            n: 0,
+        }
+    }
+
+    // A byte more; where there is no room, those before it are written.
+    fn push(&mut self, b: u8) {
+        if self.n >= 1024 {
+            self.out();
+        }
+        self.bytes[self.n] = b;
+        self.n += 1;
+    }
+
+    // Writes them.
+    fn out(&mut self)
+        ensures { self.new.n ≡ 0 }
+    {
+        io::write_all(STDOUT, &self.bytes[..self.n]);
+        self.n = 0;
+    }
+}
+
+impl fmt::Write for Gathered {
+    fn write_str(&mut self, text: &str) -> fmt::Result {
+        for b in text.as_bytes() {
+            self.push(*b);
+        }
+        Ok(())
+    }
+}
 
 // Words in hexadecimal, a space in front of each.
 #[derive(Clone, Copy)]

@@ -118,6 +118,8 @@ impl fmt::Display for Life {
 }
 
 impl Loader<210> for Life {
+    ghost sender_of = { λ life. life.attempt.sender };
+
     fn next(&self) -> Life {
         Life::new(self.number % 256 + 1)
     }
@@ -168,11 +170,15 @@ fn play(rt: &impl Print, night: &mut Night<Life, 210>, event: Event) -> io::Resu
 }
 
 // Last summer's words stand in memory, and the mark is not 24.
-fn main(rt: HostRuntime) -> io::Result<()> {
+fn night(rt: &impl Print) -> io::Result<()> {
     let mut night = Night::new(Life::new(1), [0x51; 210]);
     for event in script::NIGHT.split_whitespace().filter_map(Event::read) {
         print!(rt; "{event}")?;
-        play(&rt, &mut night, event)?;
+        play(rt, &mut night, event)?;
     }
     Ok(())
+}
+
+fn main() {
+    let _printed = night(&show::Out);
 }

@@ -5,4 +5,4 @@ use Rattle.header.proofs.byte0_from.Goals as goal
 
 pub returns-clause-value : goal.returns-clause-value
 unfolding byte0_from
-returns-clause-value c = let a = c.args in rw (c.from.ensures, c.from-2.ensures, c.from-3.ensures, bit-is a.wide, bit-is a.discovery)
+returns-clause-value c = let a = c.args in rw (c.from.ensures.0, c.from-2.ensures, c.from-3.ensures, bit-is a.wide, bit-is a.discovery)
