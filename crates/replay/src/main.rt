@@ -3,11 +3,10 @@
 #![tactic(auto)]
 
 use night::{Line, Night};
+use show::Out;
 
-// The descriptors of standard input and output. What output does not take is lost, and the night goes on.
+// The descriptor of standard input.
 const STDIN: i32 = 0;
-
-const STDOUT: i32 = 1;
 
 fn main() {
     let mut night = Night::start();
@@ -17,11 +16,11 @@ fn main() {
         // The input may end within a record, which `read_exact` would make an error.
         let n = io::read_full(STDIN, &mut recorded);
         let more = night.play(k, show::front(&recorded, n), &mut line);
-        io::write_all(STDOUT, line.text());
+        let _written = Out.write_all(line.text());
         if !more {
             break;
         }
     }
     night.last(&mut line);
-    io::write_all(STDOUT, line.text());
+    let _written = Out.write_all(line.text());
 }
