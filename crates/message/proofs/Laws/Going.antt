@@ -79,11 +79,11 @@ got byte0 ws at d e = go (ltb at (length ws)) refl (eqb fault 0) refl e
         record { here = l; within = omega (arith, s.within); counted = ap (λ (x : Head). x.count) (sym is); asking = s.asking }
 
 finish-before : (byte0 answer : ℕ) (c : Command) (p : Reading (List Command))
-    → finish byte0 answer (before c p) ≡ finish byte0 (answer + (1 + reply_words (kind_of byte0) c.count)) p
+    → finish byte0 answer (before c p) ≡ finish byte0 (answer + 1 + reply_words (kind_of byte0) c.count) p
 unfolding finish replies
 finish-before byte0 answer c (Refused r) = refl
 finish-before byte0 answer c (Means cs) =
-    let e : answer + (1 + reply_words (kind_of byte0) c.count + replies byte0 cs) ≡ answer + (1 + reply_words (kind_of byte0) c.count) + replies byte0 cs = omega arith in
+    let e : answer + (1 + reply_words (kind_of byte0) c.count + replies byte0 cs) ≡ answer + 1 + reply_words (kind_of byte0) c.count + replies byte0 cs = omega arith in
     rw e
 
 -- what a request adds to the answer beside its header
@@ -121,16 +121,16 @@ module _ {byte0 : ℕ} {ws : List ℕ} {at answer : ℕ} (g : Going byte0 ws at 
     unfolding command_of
     count-is = rw (got byte0 ws at d e).counted
 
-    pub going-last : d.last ≡ true → end_of byte0 (answer + (1 + reply)) ≡ finish byte0 0 (commands_from byte0 0 0 ws)
+    pub going-last : d.last ≡ true → end_of byte0 (answer + 1 + reply) ≡ finish byte0 0 (commands_from byte0 0 0 ws)
     unfolding finish replies
     going-last l =
-        let q : answer + (1 + reply_words (kind_of byte0) (command_of byte0 (get_or ws at 0) (drop (at + 1) ws)).count + 0) ≡ answer + (1 + reply) = omega (arith, count-is) in
+        let q : answer + (1 + reply_words (kind_of byte0) (command_of byte0 (get_or ws at 0) (drop (at + 1) ws)).count + 0) ≡ answer + 1 + reply = omega (arith, count-is) in
         rw (← q) (rw (e, l) at on)
 
-    pub going-small : answer + (1 + reply) ≤ 4096 * (at + 1)
+    pub going-small : answer + 1 + reply ≤ 4096 * (at + 1)
     going-small = omega (arith, reply-le (kind_of byte0) d.count, (got byte0 ws at d e).counted, g.small)
 
-    pub going_on : d.last ≡ false → Going byte0 ws (at + (1 + d.body)) (answer + (1 + reply))
+    pub going_on : d.last ≡ false → Going byte0 ws (at + (1 + d.body)) (answer + 1 + reply)
     going_on l =
         let next : at + (1 + d.body) ≡ at + 1 + d.body = omega arith in
         record {

@@ -32,21 +32,18 @@ returns-in_err-head c =
     rw (← going-refused c.loop-head.invariant _ (sym c.step_at.ensures ∙ c.in_err-head.was)) (search rules)
 
 pub overflow_add-answer : goal.overflow_add-answer
-overflow_add-answer c =
-    let g = c.loop-head.invariant in
-    let s = sym c.step_at.ensures ∙ c.in_ok-head.was in
-    omega (arith, going-small g _ s, g.within, g.most, reply-is _ _ _ c.reply.ensures c.writes-writes.ensures s)
+overflow_add-answer c = let g = c.loop-head.invariant in omega (arith, g.small, g.within, g.most)
 
 pub overflow_add-answer-in-loop-head : goal.overflow_add-answer-in-loop-head
 overflow_add-answer-in-loop-head c =
     let g = c.loop-head.invariant in
     let s = sym c.step_at.ensures ∙ c.in_ok-head.was in
-    omega (arith, going-small g _ s, g.within, g.most, reply-is _ _ _ c.reply.ensures c.writes-writes.ensures s)
+    omega (arith, going-small g _ s, g.within, g.most, reply-is _ _ _ c.reply-answer.ensures c.writes-writes.ensures s)
 
 pub returns-then-head : goal.returns-then-head
 returns-then-head c =
     let s = sym c.step_at.ensures ∙ c.in_ok-head.was in
-    let w = reply-is _ _ _ c.reply.ensures c.writes-writes.ensures s in
+    let w = reply-is _ _ _ c.reply-answer.ensures c.writes-writes.ensures s in
     c.end.ensures ∙ rw w (going-last c.loop-head.invariant _ s c.if-head.true)
 
 pub overflow_add-at : goal.overflow_add-at
@@ -63,5 +60,5 @@ loop-head-smaller c = going_less c.loop-head.invariant _ (sym c.step_at.ensures 
 pub loop-head-preserved : goal.loop-head-preserved
 loop-head-preserved c =
     let s = sym c.step_at.ensures ∙ c.in_ok-head.was in
-    let w = reply-is _ _ _ c.reply.ensures c.writes-writes.ensures s in
+    let w = reply-is _ _ _ c.reply-answer.ensures c.writes-writes.ensures s in
     rw w (going_on c.loop-head.invariant _ s c.if-head.false)
